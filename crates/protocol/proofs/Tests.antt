@@ -2,8 +2,8 @@
 use mathlib.Core.Path.{_≡_, refl, sym, ap, subst, _∙_}
 use mathlib.Core.Logic.{_⊎_, inl, inr, _≢_}
 use mathlib.Core.Bool.{Bool, true, false, cond, not, _&&_, _||_, true≢false}
-use Prim.Native.Nat.{ℕ, _<_}
-use lib.Dec.{T, eqb, ltb, eqb→eq, eqb-refl, ltb→lt}
+use Prim.Native.Nat.{ℕ, _<_, _≤_}
+use lib.Dec.{T, eqb, leb, ltb, eqb→eq, eqb-refl, leb→le, le→leb, ltb→lt, lt→ltb}
 use Rattle.std.specs.declared.option.Option.{Option}
 use Rattle.std.specs.declared.option.Option.the-variants.{Some, None}
 use Rattle.std.specs.Options.{isSome, valueOr}
@@ -33,6 +33,16 @@ pub taken : {X : Type 0} (b : Bool) (x y : X) → cond b (Some x) None ≡ Some 
 taken true x y q = (refl, some-same q)
 taken false x y q = absurd (none-some q)
 
+-- the first of two options that is some
+pub first-of : {X : Type 0} (b : Bool) (x : X) (o : Option X) (y : X) → cond b (Some x) o ≡ Some y → ((b ≡ true) × (x ≡ y)) ⊎ (o ≡ Some y)
+first-of true x o y e = inl (refl, some-same e)
+first-of false x o y e = inr e
+
+pub first-some : {X : Type 0} (b : Bool) (x : X) (o : Option X) → (b ≡ true) ⊎ (isSome o ≡ true) → isSome (cond b (Some x) o) ≡ true
+first-some true x o e = refl
+first-some false x o (inl e) = absurd (true≢false (sym e))
+first-some false x o (inr e) = e
+
 -- Tests
 
 pub both : (a b : Bool) → (a && b) ≡ true → (a ≡ true) × (b ≡ true)
@@ -60,6 +70,10 @@ unless false b e p = absurd (true≢false (sym e))
 pub not-true : {b : Bool} → not b ≡ true → b ≡ true → ⊥
 not-true {b} p q = true≢false (sym p ∙ ap not q)
 
+pub is-not : (b : Bool) → (b ≡ true → ⊥) → not b ≡ true
+is-not true f = absurd (f refl)
+is-not false f = refl
+
 pub to-T : (b : Bool) → b ≡ true → T b
 to-T b e = subst T (sym e) tt
 
@@ -84,3 +98,12 @@ other-numbers m n ne = by (eqb m n) refl
 
 pub less : (m n : ℕ) → ltb m n ≡ true → m < n
 less m n e = ltb→lt m n (to-T (ltb m n) e)
+
+pub is-less : {m n : ℕ} → m < n → ltb m n ≡ true
+is-less {m} {n} h = of-T (ltb m n) (lt→ltb m n h)
+
+pub at-most : (m n : ℕ) → leb m n ≡ true → m ≤ n
+at-most m n e = leb→le m n (to-T (leb m n) e)
+
+pub is-at-most : {m n : ℕ} → m ≤ n → leb m n ≡ true
+is-at-most {m} {n} h = of-T (leb m n) (le→leb m n h)

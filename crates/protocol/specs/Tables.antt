@@ -1,13 +1,14 @@
 -- Tables of edges, and which letters are allowed and which answers declared.
 use mathlib.Core.Path.{_≡_}
-use mathlib.Core.Bool.{Bool, cond, _&&_, _||_}
+use mathlib.Core.Bool.{Bool, _&&_, _||_}
 use mathlib.Core.List.{List, [], _∷_}
 use Prim.Native.Nat.{ℕ, _<_}
 use lib.Dec.{eqb, ltb}
 use Rattle.std.specs.declared.option.Option.{Option}
-use Rattle.std.specs.declared.option.Option.the-variants.{Some, None}
+use Rattle.std.specs.declared.option.Option.the-variants.{Some}
 use Rattle.std.specs.Options.{isSome}
 use Rattle.protocol.specs.declared.edges.Edge.{Edge}
+use Rattle.protocol.specs.Lists.{first-of}
 
 -- by station, letter and answer, where an edge leads, or none
 abbrev pub Table : Type 0
@@ -40,5 +41,4 @@ leads e s l a = eqb (e .from) s && (eqb (e .letter) l && eqb (e .answer) a)
 
 -- the edges of a list, the first where two have one station, letter and answer
 abbrev pub table-of : List Edge → Table
-table-of [] s l a = None
-table-of (e ∷ es) s l a = cond (leads e s l a) (Some (e .to)) (table-of es s l a)
+table-of es s l a = first-of (λ e. leads e s l a) (λ e. e .to) es

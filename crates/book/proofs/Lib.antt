@@ -1,0 +1,14 @@
+mod Free
+mod Giving
+mod Drafting
+mod Falls
+mod Closed
+mod Readers
+mod Books
+mod Lookups
+mod Entering
+mod Closing
+mod Passed
+mod Passing
+mod Home
+mod Held
