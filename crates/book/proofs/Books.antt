@@ -1,12 +1,11 @@
 -- A book, read to its end.
 use mathlib.Core.Path.{_≡_, refl, sym, ap, subst, _∙_}
-use mathlib.Core.Bool.{Bool, true, false, cond}
 use mathlib.Core.List.{List, [], _∷_}
 use Prim.Native.Nat.{ℕ, zero, suc, _+_, _-_, _<_, _≤_}
 use native.Mathlib.Omega.{arith}
 use denote.Ref.{RefT}
-use lib.Dec.{eqb, leb, leb→le, le→leb}
-use lib.ListN.{length, getD, take, drop, length-drop}
+use lib.Dec.{leb, le→leb}
+use lib.ListN.{length, take, drop, length-drop}
 use lib.Seq.{drop-drop}
 use Rattle.std.specs.declared.option.Option.the-variants.{None}
 use Rattle.std.specs.declared.result.Result.{Result}
@@ -16,8 +15,7 @@ use Rattle.faults.specs.Results.{_>>=_}
 use Rattle.faults.proofs.Results.{met, follows}
 use Rattle.protocol.proofs.Tests.{of-T}
 use Rattle.book.specs.declared.reader.Reader.{Reader}
-use Rattle.book.specs.Kinds.{Kind}
-use Rattle.book.specs.Commands.{Code, code-of, width, Command, commands}
+use Rattle.book.specs.Commands.{Code, code-of, width, commands}
 use Rattle.book.specs.Reading.{Reading, start, closed, declare, declare-all, read-book}
 use Rattle.book.specs.Shown.{Gives, Listed, Reads, Took, first-code, declare-first}
 use Rattle.book.proofs.Giving.{gives-ok, given-ok, given-err, gives-weaker}

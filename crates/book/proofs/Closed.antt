@@ -1,10 +1,10 @@
 -- The close of a draft, by its tables and by its definition.
 use mathlib.Core.Path.{_≡_, refl, sym, ap, subst, fun-ext, _∙_}
 use mathlib.Core.Logic.{inl, inr}
-use mathlib.Core.Bool.{Bool, true, false, _&&_, _||_, true≢false}
+use mathlib.Core.Bool.{true, false, _||_, true≢false}
 use mathlib.Core.List.{List, [], _∷_}
-use Prim.Native.Nat.{ℕ, _<_, _≤_}
-use lib.Dec.{eqb, ltb}
+use Prim.Native.Nat.{ℕ, _<_}
+use lib.Dec.{eqb}
 use lib.ListN.{getD, take}
 use Rattle.std.specs.declared.result.Result.{Result}
 use Rattle.std.specs.declared.result.Result.the-variants.{Ok, Err}
@@ -15,12 +15,12 @@ use Rattle.faults.specs.Results.{each, need, _>>=_}
 use Rattle.protocol.specs.declared.edges.Edge.{Edge}
 use Rattle.protocol.specs.Lists.{all}
 use Rattle.protocol.specs.Tables.{Table, table-of, edge-in-range}
-use Rattle.protocol.proofs.Tests.{both, and-true, either, or-left, or-right, equal-numbers, same-number, less}
-use Rattle.book.specs.declared.automaton.Automaton.{Automaton}
+use Rattle.protocol.proofs.Tests.{both, and-true, either, or-left, or-right, is-false, equal-numbers, same-number}
 use Rattle.book.specs.declared.draft.Draft as code
-use Rattle.book.specs.Kinds.{Kind, Retreats, homed, retreat-of}
+use Rattle.book.specs.Kinds.{Retreats, homed, retreat-of}
 use Rattle.book.specs.Reading.{Draft, drafted, unplaced, placed-falls, edge-homed, close-draft}
 use Rattle.book.specs.Shown.{Shows, Drafts, names, edges-of, retreats-of, Gives}
+use Rattle.book.proofs.Entering.{edge-ranged}
 use Rattle.book.proofs.Giving.{gives-ok, gives-err}
 
 -- Stations that edges name
@@ -29,13 +29,11 @@ named-homed : (h : Retreats) (es : List Edge) → all edge-in-range es ≡ true 
 named-homed h [] r f = refl
 named-homed h (e ∷ es) r f =
     let p = both (edge-in-range e) (all edge-in-range es) r in
-    let p0 = both (ltb (e .from) 16) _ (p .0) in
-    let p1 = both (ltb (e .letter) 16) _ (p0 .1) in
-    let p2 = both (ltb (e .answer) 4) _ (p1 .1) in
+    let q = edge-ranged e (p .0) in
     and-true
     (and-true
-    (f (e .from) (less (e .from) 16 (p0 .0)) (or-left (eqb (e .to) (e .from) || names es (e .from)) (equal-numbers {m = e .from} refl)))
-    (f (e .to) (less (e .to) 16 (p2 .1)) (or-right (eqb (e .from) (e .to)) (or-left (names es (e .to)) (equal-numbers {m = e .to} refl)))))
+    (f (e .from) (q .0) (or-left (eqb (e .to) (e .from) || names es (e .from)) (equal-numbers {m = e .from} refl)))
+    (f (e .to) (q .3) (or-right (eqb (e .from) (e .to)) (or-left (names es (e .to)) (equal-numbers {m = e .to} refl)))))
     (named-homed h es (p .1) (λ s lt n. f s lt (or-right (eqb (e .from) s) (or-right (eqb (e .to) s) n))))
 
 homed-named : (h : Retreats) (es : List Edge) (s : ℕ) → all (edge-homed h) es ≡ true → names es s ≡ true → homed h s ≡ true
@@ -50,10 +48,6 @@ homed-named h (e ∷ es) s ok n =
         | inr k ↦ homed-named h es s (p .1) k
       ]
     ]
-
-is-false : (b : Bool) → (b ≡ true → ⊥) → b ≡ false
-is-false true no-way = absurd (no-way refl)
-is-false false no-way = refl
 
 module _ (d : code.Draft) (x : Draft) (w : Drafts d x) where
   abbrev t : Table

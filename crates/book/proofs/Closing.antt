@@ -24,7 +24,8 @@ use Rattle.book.specs.declared.draft.Placed.{Placed}
 use Rattle.book.specs.Kinds.{Kind, Retreats, retreat-of, rank-of, homed, nearer, falls}
 use Rattle.book.specs.Reading.{Draft, Reading, unplaced, drafted, edge-homed, close-draft, closed}
 use Rattle.book.specs.Lawful.{kind-in, EdgeRanged, RetreatRanged, Homed, Departs, Nearer, LawfulKind}
-use Rattle.book.proofs.Lookups.{edge-found, edge-there, edge-leads, allows, is-allowed, each-answer, all-answers, retreat-found, retreat-there, retreat-is}
+use Rattle.protocol.proofs.Answers.{allows, is-allowed, each-answer, all-answers}
+use Rattle.book.proofs.Lookups.{edge-found, edge-there, edge-leads, retreat-found, retreat-there, retreat-is}
 use Rattle.book.proofs.Entering.{Entered, lawful-entered, joined, joined-none}
 
 module _ (k : Kind) (n : Entered k) where

@@ -1,13 +1,12 @@
 -- The tables of the kind that is being declared, with one command more.
-use mathlib.Core.Path.{_≡_, refl, sym, ap, subst, _∙_}
-use mathlib.Core.Logic.{_≢_}
-use mathlib.Core.Bool.{Bool, true, false, cond, not, _&&_, _||_}
-use mathlib.Core.List.{List, [], _∷_, _++_, map, map-append}
-use Prim.Native.Nat.{ℕ, _+_, _<_, _≤_}
+use mathlib.Core.Path.{_≡_, refl, sym, ap, _∙_}
+use mathlib.Core.Bool.{Bool, true, false, cond, not, _||_}
+use mathlib.Core.List.{List, [], _∷_, _++_, map-append}
+use Prim.Native.Nat.{ℕ, _+_, _<_}
 use native.Mathlib.Omega.{arith}
 use native.Mathlib.Decide.{ℕ-discrete}
-use lib.Dec.{eqb, ltb}
-use lib.ListN.{length, getD, set, take, length-set}
+use lib.Dec.{eqb}
+use lib.ListN.{length, getD, set, length-set}
 use lib.Seq.{getD-set-same, getD-set-other}
 use Rattle.std.specs.declared.option.Option.{Option}
 use Rattle.std.specs.declared.option.Option.the-variants.{Some, None}
@@ -17,10 +16,9 @@ use Rattle.std.proofs.shelf.Lists.{take-more-set}
 use Rattle.faults.proofs.Results.{met}
 use Rattle.protocol.specs.declared.edges.Edge.{Edge}
 use Rattle.protocol.specs.declared.table.EdgeTable.{EdgeTable}
-use Rattle.protocol.specs.Lists.{all}
 use Rattle.protocol.specs.Tables.{leads, table-of, edge-in-range}
 use Rattle.protocol.specs.Slots.{table-in}
-use Rattle.protocol.proofs.Tests.{both, equal-numbers, other-numbers, same-number, less}
+use Rattle.protocol.proofs.Tests.{equal-numbers, other-numbers, same-number}
 use Rattle.protocol.proofs.Lists.{all-more}
 use Rattle.protocol.proofs.Firsts.{first-added, table-added}
 use Rattle.book.specs.declared.automaton.Retreat.{Retreat}
@@ -30,6 +28,7 @@ use Rattle.book.specs.declared.draft.Draft as code
 use Rattle.book.specs.Kinds.{retreat-of, retreat-in-range}
 use Rattle.book.specs.Reading.{Draft, unplaced, edge-added, retreat-added, add-edge, add-retreat}
 use Rattle.book.specs.Shown.{Drafts, Gives, names, retreats-of, free}
+use Rattle.book.proofs.Entering.{edge-ranged}
 use Rattle.book.proofs.Free.{is-none}
 use Rattle.book.proofs.Giving.{gives-ok}
 
@@ -81,11 +80,7 @@ pub edge-drafts : (d : code.Draft) (x : Draft) (t : EdgeTable) (e : Edge) → Dr
     ((s l a : ℕ) → table-in t s l a ≡ cond (leads e s l a) (Some (e .to)) (table-in (d .automaton .edges) s l a)) →
     Drafts (with-edge d t e) (edge-added x e)
 edge-drafts d x t e w len ok new after =
-    let r = both (ltb (e .from) 16) _ ok in
-    let r1 = both (ltb (e .letter) 16) _ (r .1) in
-    let r2 = both (ltb (e .answer) 4) _ (r1 .1) in
-    let low : e .from < 16 = less (e .from) 16 (r .0) in
-    let low-to : e .to < 16 = less (e .to) 16 (r2 .1) in
+    let r = edge-ranged e ok in
     record {
       place = w .place;
       shows = record {
@@ -97,8 +92,8 @@ edge-drafts d x t e w len ok new after =
       };
       ranged = all-more edge-in-range (x .edges) e (w .ranged) ok;
       named = λ s lt.
-          marked (set (d .named) (e .from) true) (e .to) s (omega (arith, length-set (d .named) (e .from) true))
-          ∙ ap (λ v. eqb (e .to) s || v) (marked (d .named) (e .from) s (omega arith))
+          marked (set (d .named) (e .from) true) (e .to) s (omega (arith, length-set (d .named) (e .from) true, r .3))
+          ∙ ap (λ v. eqb (e .to) s || v) (marked (d .named) (e .from) s (omega (arith, r .0)))
           ∙ ap (λ v. eqb (e .to) s || (eqb (e .from) s || v)) (w .named s lt)
           ∙ sym (names-more (x .edges) e s);
       listed = w .listed;

@@ -55,7 +55,7 @@ joined-item k (retreat r) is = joined-assoc k (kind-in (retreat r ∷ [])) (kind
 
 -- Ranges
 
-edge-ranged : (e : Edge) → edge-in-range e ≡ true → EdgeRanged e
+pub edge-ranged : (e : Edge) → edge-in-range e ≡ true → EdgeRanged e
 edge-ranged e h =
     let x = both (ltb (e .from) 16) _ h in
     let y = both (ltb (e .letter) 16) _ (x .1) in

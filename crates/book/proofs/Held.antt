@@ -5,7 +5,6 @@ use mathlib.Core.List.{List, [], _∷_}
 use Prim.Native.Nat.{ℕ, zero, suc, _<_, _≤_}
 use native.Mathlib.Omega.{arith}
 use native.Mathlib.Nat.{le-of-suc-le-suc}
-use borrow.Author.Tests.{leb-false}
 use lib.Dec.{ltb}
 use lib.ListN.{length, getD}
 use Rattle.std.specs.declared.option.Option.{Option}
@@ -16,7 +15,7 @@ use Rattle.std.specs.Options.{mapped}
 use Rattle.std.specs.Results.{isOk}
 use Rattle.faults.specs.declared.fault.Fault.{Fault}
 use Rattle.protocol.specs.Tables.{table-of}
-use Rattle.protocol.proofs.Tests.{less}
+use Rattle.protocol.proofs.Tests.{less, not-less}
 use Rattle.book.specs.declared.automaton.Retreat.{Retreat}
 use Rattle.book.specs.declared.tables.Tables.{Tables}
 use Rattle.book.specs.Kinds.{Kind, no-kind, retreat-of}
@@ -35,9 +34,6 @@ beyond : (ks : List Kind) (k : ℕ) → length ks ≤ k → getD ks k no-kind �
 beyond [] k le = refl
 beyond (x ∷ ks) zero le = absurd (omega (arith, le))
 beyond (x ∷ ks) (suc k) le = beyond ks k (le-of-suc-le-suc le)
-
-not-less : (m n : ℕ) → ltb m n ≡ false → n ≤ m
-not-less m n e = omega (arith, leb-false (suc m) n e)
 
 -- what holds within the count, and beyond it
 by-count : (t : Tables) (ks : List Kind) (k : ℕ) (X : Type 0) (o : Option X) (f : Kind → Option X) → Listed t ks →

@@ -1,9 +1,8 @@
 -- A reader with one command more.
 use mathlib.Core.Path.{_≡_, refl, sym, ap, subst, _∙_}
-use mathlib.Core.Logic.{_≢_}
-use mathlib.Core.Bool.{true, _&&_}
+use mathlib.Core.Bool.{true}
 use mathlib.Core.List.{List, [], _∷_, _++_}
-use Prim.Native.Nat.{ℕ, suc, _+_, _<_, _≤_}
+use Prim.Native.Nat.{ℕ, _+_, _<_, _≤_}
 use native.Mathlib.Omega.{arith}
 use native.Mathlib.Decide.{ℕ-discrete}
 use lib.Dec.{eqb, ltb, lit<, lt→ltb}
@@ -16,10 +15,8 @@ use Rattle.std.specs.declared.result.Result.the-variants.{Ok}
 use Rattle.std.proofs.shelf.Lists.{getD-append-left, getD-push}
 use Rattle.faults.specs.declared.fault.Fault.{Fault}
 use Rattle.faults.proofs.Results.{met, follows}
-use Rattle.protocol.specs.declared.edges.Edge.{Edge}
 use Rattle.protocol.proofs.Tests.{and-true, equal-numbers, of-T}
 use Rattle.book.specs.declared.automaton.Automaton.{Automaton}
-use Rattle.book.specs.declared.automaton.Retreat.{Retreat}
 use Rattle.book.specs.declared.draft.Draft as code
 use Rattle.book.specs.declared.tables.Tables.{Tables}
 use Rattle.book.specs.declared.reader.Reader.{Reader}
@@ -124,8 +121,7 @@ kind-reads r d x at os gives new number lt le =
     let ks : List Kind = g .0 in
     let w : Reads r (record { kinds = ks; draft = None }) = g .2 in
     let next : eqb (getD (take 1 os) 0 0) (length ks) ≡ true = equal-numbers (getD-take 1 os 0 0 (lit< tt) ∙ number ∙ w .listed .counted) in
-    let few : ltb (length ks) 8 ≡ true = of-T (ltb (length ks) 8) (lt→ltb (length ks) 8 (subst (λ n. n < 8) (w .listed .counted) lt)) in
-    (
+    let few : ltb (length ks) 8 ≡ true = of-T (ltb (length ks) 8) (lt→ltb (length ks) 8 (subst (λ n. n < 8) (w .listed .counted) lt)) in (
       record { kinds = ks; draft = Some (record { place = at; edges = []; retreats = [] }) },
       follows _ (g .1) ∙ met _ _ _ (enough 1 os le) ∙ met _ _ _ (and-true next few),
       record { fits = (w .fits .0, (lt, new .counted)); listed = w .listed; drafts = new },

@@ -2,11 +2,10 @@
 use mathlib.Core.Path.{_≡_}
 use mathlib.Core.Logic.{_⊎_}
 use mathlib.Core.List.{List}
-use Prim.Native.Nat.{ℕ, zero, suc, _<_, _≤_}
+use Prim.Native.Nat.{ℕ, suc, _≤_}
 use lib.ListN.{getD}
 use Rattle.std.specs.declared.option.Option.the-variants.{Some}
 use Rattle.std.specs.declared.result.Result.the-variants.{Ok}
-use Rattle.protocol.specs.declared.edges.Edge.{Edge}
 use Rattle.protocol.specs.Lists.{Some-one}
 use Rattle.protocol.specs.Tables.{Allowed, table-of}
 use Rattle.book.specs.declared.automaton.Retreat.{Retreat}

@@ -1,12 +1,11 @@
 // The kind that is being declared.
 ghost use mathlib.Core.Path.{_≡_};
-ghost use mathlib.Core.Bool.{Bool, true, false};
-ghost use mathlib.Core.List.{List, []};
+ghost use mathlib.Core.Bool.{true, false};
+ghost use mathlib.Core.List.{[]};
 ghost use Prim.Native.Nat.{ℕ, _+_, _<_, _≤_};
 ghost use lib.ListN.{getD, take};
 ghost use Rattle.std.specs.Orderings.{When};
-ghost use Rattle.faults.specs.Results.{each, need};
-ghost use Rattle.faults.specs.Numbers.{book-fault};
+ghost use Rattle.faults.specs.Results.{each};
 ghost use Rattle.book.specs.Kinds.{homed};
 ghost use Rattle.book.specs.Reading.{Draft as Reading-draft, add-edge, add-retreat, close-draft, placed-falls};
 ghost use Rattle.book.specs.Shown.{Drafts, Gives, Shows, edges-of, free, retreats-of};

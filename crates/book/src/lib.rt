@@ -5,6 +5,7 @@ mod draft;
 mod laws;
 mod reader;
 mod tables;
+
 pub use book::Book;
 pub use laws::book_decides;
 pub use laws::retreats_lead_home;

@@ -1,6 +1,5 @@
 // Reads a book command by command.
-ghost use mathlib.Core.Path.{_≡_};
-ghost use Prim.Native.Nat.{ℕ, suc};
+ghost use Prim.Native.Nat.{suc};
 ghost use lib.ListN.{take};
 ghost use Rattle.std.specs.declared.option.Option.the-variants.{None};
 ghost use Rattle.book.specs.Commands.{EDGE, KIND, RETREAT, width};

@@ -35,7 +35,6 @@ follows f p = ap (λ v. v >>= f) p
 pub met : {X E : Type 0} (b : Bool) (e : E) (f : Unit {0} → Result X E) → b ≡ true → (need b e >>= f) ≡ f tt
 met b e f p = ap (λ v. need v e >>= f) p
 
-
 -- The first fault along a list, from a place on
 
 module _ {X E : Type 0} (f : X → Result (Unit {0}) E) (xs : List X) (i : ℕ) where

@@ -2,6 +2,7 @@
 mod causes;
 mod fault;
 mod text;
+
 pub use causes::BookCause;
 pub use causes::Cause;
 pub use causes::KeyCause;

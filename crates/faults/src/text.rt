@@ -33,10 +33,13 @@ impl BookCause {
             BookCause::TooLong => "the book has more than 8192 bytes",
             BookCause::UnknownCommand => "this is no command of a book",
             BookCause::MissingOperands => "the book ends before the operands of this command do",
-            BookCause::OutOfRange => "an operand is out of range, the kind is not the next number, or no kind is declared yet",
-            BookCause::DeclaredTwice => "this kind has this edge, or a retreat of this station, already",
+            BookCause::OutOfRange =>
+                "an operand is out of range, the kind is not the next number, or no kind is declared yet",
+            BookCause::DeclaredTwice =>
+                "this kind has this edge, or a retreat of this station, already",
             BookCause::NoRetreat => "a station that an edge of this kind names has no retreat",
-            BookCause::BadRetreat => "the retreat letter is not allowed at its station, or an answer to it leads to a rank that is not smaller",
+            BookCause::BadRetreat =>
+                "the retreat letter is not allowed at its station, or an answer to it leads to a rank that is not smaller",
         }
     }
 }
@@ -48,9 +51,12 @@ impl LayoutCause {
         match self {
             LayoutCause::TooLong => "the script has more than 16384 bytes",
             LayoutCause::NoPart => "no part begins here, or the script ends before its header does",
-            LayoutCause::BadHeader => "the header of this part is broken, its body runs past the end, or it is one part too many",
-            LayoutCause::BadCommand => "this is no command of a body, or its operands or blocks run past its block",
-            LayoutCause::OutOfRange => "a handle, letter, register, part number or binding is out of range",
+            LayoutCause::BadHeader =>
+                "the header of this part is broken, its body runs past the end, or it is one part too many",
+            LayoutCause::BadCommand =>
+                "this is no command of a body, or its operands or blocks run past its block",
+            LayoutCause::OutOfRange =>
+                "a handle, letter, register, part number or binding is out of range",
             LayoutCause::TooDeep => "blocks stand too deep in each other",
         }
     }
@@ -63,9 +69,11 @@ impl KeyCause {
         match self {
             KeyCause::NotAllowed => "the letter is not allowed at the station of its handle",
             KeyCause::AnswersDiffer => "the answers to the letter lead to different stations",
-            KeyCause::UndeclaredBlock => "an answer that is not declared has a block that is not empty",
+            KeyCause::UndeclaredBlock =>
+                "an answer that is not declared has a block that is not empty",
             KeyCause::EndsDiffer => "the blocks end with the handles at different stations",
-            KeyCause::RepeatDiffers => "the block ends with the handles at other stations than it began with",
+            KeyCause::RepeatDiffers =>
+                "the block ends with the handles at other stations than it began with",
             KeyCause::BoundTwice => "one handle is bound twice",
             KeyCause::BoundWrong => "a bound handle differs in kind or in station",
             KeyCause::BodyEnd => "the body does not end at the stations out of its part",
@@ -86,7 +94,8 @@ impl StageCause {
             StageCause::Over => "the player is over",
             StageCause::BadBudget => "the number of steps is 0 or above 1000",
             StageCause::ShortLog => "the log has too few entries",
-            StageCause::RigChanged => "the ports, or the table or station of one, are not as the player keeps them",
+            StageCause::RigChanged =>
+                "the ports, or the table or station of one, are not as the player keeps them",
             StageCause::NoSuchPort => "the player has no such port",
             StageCause::BadMap => "the map of a patch is not sixteen letters or marks for none",
         }

@@ -1,4 +1,5 @@
 pub mod Tests
 pub mod Lists
 pub mod Firsts
+pub mod Answers
 mod Balance

@@ -2,7 +2,9 @@
 use mathlib.Core.Path.{_≡_, refl, sym, ap, subst, _∙_}
 use mathlib.Core.Logic.{_⊎_, inl, inr, _≢_}
 use mathlib.Core.Bool.{Bool, true, false, cond, not, _&&_, _||_, true≢false}
-use Prim.Native.Nat.{ℕ, _<_, _≤_}
+use Prim.Native.Nat.{ℕ, suc, _<_, _≤_}
+use native.Mathlib.Omega.{arith}
+use borrow.Author.Tests.{leb-false}
 use lib.Dec.{T, eqb, leb, ltb, eqb→eq, eqb-refl, leb→le, le→leb, ltb→lt, lt→ltb}
 use Rattle.std.specs.declared.option.Option.{Option}
 use Rattle.std.specs.declared.option.Option.the-variants.{Some, None}
@@ -33,16 +35,6 @@ pub taken : {X : Type 0} (b : Bool) (x y : X) → cond b (Some x) None ≡ Some 
 taken true x y q = (refl, some-same q)
 taken false x y q = absurd (none-some q)
 
--- the first of two options that is some
-pub first-of : {X : Type 0} (b : Bool) (x : X) (o : Option X) (y : X) → cond b (Some x) o ≡ Some y → ((b ≡ true) × (x ≡ y)) ⊎ (o ≡ Some y)
-first-of true x o y e = inl (refl, some-same e)
-first-of false x o y e = inr e
-
-pub first-some : {X : Type 0} (b : Bool) (x : X) (o : Option X) → (b ≡ true) ⊎ (isSome o ≡ true) → isSome (cond b (Some x) o) ≡ true
-first-some true x o e = refl
-first-some false x o (inl e) = absurd (true≢false (sym e))
-first-some false x o (inr e) = e
-
 -- Tests
 
 pub both : (a b : Bool) → (a && b) ≡ true → (a ≡ true) × (b ≡ true)
@@ -66,6 +58,10 @@ or-right false p = p
 pub unless : (a b : Bool) → a ≡ true → (not a || b) ≡ true → b ≡ true
 unless true b e p = p
 unless false b e p = absurd (true≢false (sym e))
+
+pub is-false : (b : Bool) → (b ≡ true → ⊥) → b ≡ false
+is-false true no-way = absurd (no-way refl)
+is-false false no-way = refl
 
 pub not-true : {b : Bool} → not b ≡ true → b ≡ true → ⊥
 not-true {b} p q = true≢false (sym p ∙ ap not q)
@@ -107,3 +103,6 @@ at-most m n e = leb→le m n (to-T (leb m n) e)
 
 pub is-at-most : {m n : ℕ} → m ≤ n → leb m n ≡ true
 is-at-most {m} {n} h = of-T (leb m n) (le→leb m n h)
+
+pub not-less : (m n : ℕ) → ltb m n ≡ false → n ≤ m
+not-less m n e = omega (arith, leb-false (suc m) n e)

@@ -8,7 +8,9 @@ pub const AWAY: u8 = 0;
 pub const JAMMED: u8 = 16;
 // Stations are 0 to 15, letters 0 to 15, answers 0 to 3.
 pub const STATIONS: u8 = 16;
+
 pub const LETTERS: u8 = 16;
+
 pub const ANSWERS: u8 = 4;
 
 // At a station a letter may be answered so, and then leads on.
