@@ -29,7 +29,7 @@ use Rattle.book.specs.Kinds.{retreat-of, retreat-in-range}
 use Rattle.book.specs.Reading.{Draft, unplaced, edge-added, retreat-added, add-edge, add-retreat}
 use Rattle.book.specs.Shown.{Drafts, Gives, names, retreats-of, free}
 use Rattle.book.proofs.Entering.{edge-ranged}
-use Rattle.book.proofs.Free.{is-none}
+use Rattle.book.proofs.Free.{is-none, free-added}
 use Rattle.book.proofs.Giving.{gives-ok}
 
 -- Edges
@@ -150,9 +150,10 @@ pub retreat-gives : (d : code.Draft) (x : Draft) (a : Automaton) (place : ℕ) (
     isSome (retreats-of (d .automaton) (r .station)) ≡ false →
     a .edges ≡ d .automaton .edges →
     ((s : ℕ) → retreats-of a s ≡ cond (eqb (r .station) s) (Some r) (retreats-of (d .automaton) s)) →
-    free (a .retreats) + 1 ≡ free (d .automaton .retreats) →
+    length (d .automaton .retreats) ≡ 16 → a .retreats ≡ set (d .automaton .retreats) (r .station) (Some r) →
     Gives {Y = Unit {0}} (λ _ y. Drafts (with-retreat d a place r) y) (Ok tt) (add-retreat x place r)
-retreat-gives d x a place r w len ok vacant same after freed =
+retreat-gives d x a place r w len ok vacant same after whole places =
+    let freed : free (a .retreats) + 1 ≡ free (d .automaton .retreats) = ap (λ l. free l + 1) places ∙ free-added (d .automaton) r ok whole vacant in
     let new : retreat-of (unplaced (x .retreats)) (r .station) ≡ None = sym (w .shows .retreats (r .station)) ∙ is-none _ vacant in
     let passed : add-retreat x place r ≡ Ok (retreat-added x place r) = met _ _ _ ok ∙ met _ _ _ (ap (λ (o : Option Retreat). not (isSome o)) new) in
     gives-ok {Y = Unit {0}} (λ _ y. Drafts (with-retreat d a place r) y) tt (retreat-added x place r) (add-retreat x place r) passed

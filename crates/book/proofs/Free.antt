@@ -5,14 +5,15 @@ use mathlib.Core.List.{List, [], _∷_}
 use Prim.Native.Nat.{ℕ, zero, suc, _+_, _<_}
 use native.Mathlib.Omega.{arith}
 use native.Mathlib.Nat.{le-of-suc-le-suc}
-use lib.Dec.{ltb, lt→ltb}
+use lib.Dec.{ltb}
 use lib.ListN.{length, getD, set}
 use Rattle.std.specs.declared.option.Option.{Option}
 use Rattle.std.specs.declared.option.Option.the-variants.{Some, None}
 use Rattle.std.specs.Options.{isSome}
-use Rattle.protocol.proofs.Tests.{none-some, of-T}
+use Rattle.protocol.proofs.Tests.{none-some, both, less}
 use Rattle.book.specs.declared.automaton.Automaton.{Automaton}
 use Rattle.book.specs.declared.automaton.Retreat.{Retreat}
+use Rattle.book.specs.Kinds.{retreat-in-range}
 use Rattle.book.specs.Shown.{retreats-of, free}
 
 -- a free place is taken
@@ -27,9 +28,10 @@ pub is-none : {X : Type 0} (o : Option X) → isSome o ≡ false → o ≡ None
 is-none None e = refl
 is-none (Some x) e = absurd (true≢false e)
 
-pub free-added : (a : Automaton) (r : Retreat) → r .station < 16 → length (a .retreats) ≡ 16 → isSome (retreats-of a (r .station)) ≡ false →
+-- a retreat that is in range and new takes a free place
+pub free-added : (a : Automaton) (r : Retreat) → retreat-in-range r ≡ true → length (a .retreats) ≡ 16 → isSome (retreats-of a (r .station)) ≡ false →
     free (set (a .retreats) (r .station) (Some r)) + 1 ≡ free (a .retreats)
-free-added a r lt len e =
-    let low : ltb (r .station) 16 ≡ true = of-T (ltb (r .station) 16) (lt→ltb (r .station) 16 lt) in
-    free-taken (a .retreats) (r .station) r (omega arith)
+free-added a r ok len e =
+    let low : ltb (r .station) 16 ≡ true = both (ltb (r .station) 16) _ (both (ltb 0 (r .station)) _ ok .1) .0 in
+    free-taken (a .retreats) (r .station) r (omega (arith, less (r .station) 16 low, len))
     (is-none (getD (a .retreats) (r .station) None) (ap (λ b. isSome (cond b (getD (a .retreats) (r .station) None) None)) (sym low) ∙ e))

@@ -3,6 +3,7 @@ ghost use mathlib.Core.Path.{_≡_};
 ghost use mathlib.Core.Bool.{true, false, cond, not, _&&_};
 ghost use Prim.Native.Nat.{ℕ, _+_};
 ghost use lib.Dec.{eqb};
+ghost use lib.ListN.{length, set};
 ghost use Rattle.std.specs.Options.{isSome};
 ghost use Rattle.std.specs.declared.option.Option.the-variants.{Some, None};
 ghost use Rattle.book.specs.Kinds.{falls, nearer, no-kind, rank-of, retreat-in-range};
@@ -94,7 +95,8 @@ impl Automaton {
         ensures answer { λ r. ⌜ r ≡ (retreat-in-range retreat && not (isSome (retreats-of (now (self .entry)) (retreat .station)))) ⌝ }
         ensures edges { λ _. ⌜ now (self .exit) .edges ≡ now (self .entry) .edges ⌝ }
         ensures after { λ r. ⌜ ((s : ℕ) → retreats-of (now (self .exit)) s ≡ cond (r && eqb (retreat .station) s) (Some retreat) (retreats-of (now (self .entry)) s)) ⌝ }
-        ensures freed { λ r. ⌜ free (now (self .exit) .retreats) + cond r 1 0 ≡ free (now (self .entry) .retreats) ⌝ }
+        ensures places { λ r. ⌜ now (self .exit) .retreats ≡ cond r (set (now (self .entry) .retreats) (retreat .station) (Some retreat)) (now (self .entry) .retreats) ⌝ }
+        ensures whole { λ r. ⌜ (r ≡ true → length (now (self .entry) .retreats) ≡ 16) ⌝ }
     {
         if !retreat.in_range() || self.retreat(retreat.station).is_some() {
             return false;

@@ -5,6 +5,8 @@ mod draft;
 mod laws;
 mod reader;
 mod tables;
+#[cfg(test)]
+mod tests;
 
 pub use book::Book;
 pub use laws::book_decides;

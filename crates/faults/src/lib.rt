@@ -9,5 +9,7 @@ pub use causes::KeyCause;
 pub use causes::LayoutCause;
 pub use causes::StageCause;
 pub use fault::Fault;
+pub use fault::FaultDebug;
+pub use fault::FaultPartialEq;
 pub use fault::NOWHERE;
 pub use text::FaultDisplay;

@@ -35,6 +35,7 @@ impl<'a> Book<'a> {
         ensures held { λ r. ⌜ bytes-of (now (self .exit)) ≡ cond (isOk r) (now (bytes .entry)) (bytes-of (now (self .entry))) ⌝ }
         ensures refused { λ r. ⌜ elim r [ Ok _ ↦ Unit {0} | Err _ ↦ now (self .exit) ≡ now (self .entry) ] ⌝ }
         ensures decides { λ _. ⌜ Book-decides ⌝ }
+        ensures home { λ _. ⌜ Retreats-lead-home ⌝ }
     {
         let tables = read(bytes)?;
         *self = Book { bytes, tables };
@@ -65,8 +66,7 @@ impl<'a> Book<'a> {
 
     // The retreat letter of a station of a kind; none at away, and where there is no retreat.
     pub fn retreat_letter(&self, kind: u8, station: u8) -> Option<u8>
-        ensures value { λ r. ⌜ r ≡ mapped (λ q. q .letter) (retreat-of (kind-held (now (self .entry)) kind .retreats) station) ⌝ }
-        ensures home { λ _. ⌜ Retreats-lead-home ⌝ }
+        ensures { λ r. ⌜ r ≡ mapped (λ q. q .letter) (retreat-of (kind-held (now (self .entry)) kind .retreats) station) ⌝ }
     {
         match self.tables.retreat(kind, station) {
             Some(retreat) => Some(retreat.letter),

@@ -1,6 +1,7 @@
 use mathlib.Core.Path.{refl}
 use Rattle.std.proofs.shelf.Results.{err-from-errBy}
 use Rattle.book.proofs.Held.{holds, passes, fails, kept}
+use Rattle.book.proofs.Home.{leads-home}
 use Rattle.book.proofs.Passed.{passed-declares}
 use Rattle.book.proofs.Passing.{declared-passes}
 use Rattle.book.proofs.book.Book.check.Needs as need
@@ -13,6 +14,7 @@ returns-in-Break-tables c =
       held = kept (c .from-residual .result) _ _ _ (p .1);
       refused = rw (p .1) refl;
       decides = λ bs ks. (passed-declares bs ks, declared-passes bs ks);
+      home = leads-home;
     }
 
 pub ghost-self : need.ghost-self
@@ -26,4 +28,5 @@ returns c = record {
   held = refl;
   refused = tt;
   decides = λ bs ks. (passed-declares bs ks, declared-passes bs ks);
+  home = leads-home;
 }

@@ -1,0 +1,6 @@
+pub mod Books
+pub mod Digits
+pub mod Leading
+pub mod Lines
+pub mod Rows
+pub mod Transcripts
