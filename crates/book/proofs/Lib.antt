@@ -8,7 +8,7 @@ mod Books
 mod Lookups
 mod Entering
 mod Closing
-mod Passed
+pub mod Passed
 mod Passing
 mod Home
 mod Held

@@ -1,0 +1,5 @@
+pub mod Lists
+pub mod Script
+pub mod Check
+pub mod Keys
+pub mod Examples
