@@ -16,11 +16,11 @@ use Rattle.protocol.specs.declared.edges.Edge.{Edge}
 use Rattle.protocol.specs.Lists.{all}
 use Rattle.protocol.specs.Tables.{Table, table-of, edge-in-range}
 use Rattle.protocol.proofs.Tests.{both, and-true, either, or-left, or-right, is-false, equal-numbers, same-number}
+use Rattle.protocol.proofs.Ranges.{edge-ranged}
 use Rattle.book.specs.declared.draft.Draft as code
 use Rattle.book.specs.Kinds.{Retreats, homed, retreat-of}
 use Rattle.book.specs.Reading.{Draft, drafted, unplaced, placed-falls, edge-homed, close-draft}
 use Rattle.book.specs.Shown.{Shows, Drafts, names, edges-of, retreats-of, Gives}
-use Rattle.book.proofs.Entering.{edge-ranged}
 use Rattle.book.proofs.Giving.{gives-ok, gives-err}
 
 -- Stations that edges name

@@ -16,14 +16,14 @@ use Rattle.faults.specs.Results.{need, each}
 use Rattle.faults.proofs.Results.{ok-same, bound, needed, met, follows}
 use Rattle.protocol.specs.declared.edges.Edge.{Edge}
 use Rattle.protocol.specs.Lists.{all, Each, Some-one}
-use Rattle.protocol.specs.Tables.{Table, allowed, table-of}
+use Rattle.protocol.specs.Tables.{EdgeRanged, Table, allowed, table-of}
 use Rattle.protocol.proofs.Tests.{cases, some-of, both, and-true, either, or-left, or-right, same-number, equal-numbers, less, is-less}
 use Rattle.protocol.proofs.Lists.{In, each-join, all-each, each-all, each-in, in-each, some-in, in-some}
 use Rattle.book.specs.declared.automaton.Retreat.{Retreat}
 use Rattle.book.specs.declared.draft.Placed.{Placed}
 use Rattle.book.specs.Kinds.{Kind, Retreats, retreat-of, rank-of, homed, nearer, falls}
 use Rattle.book.specs.Reading.{Draft, Reading, unplaced, drafted, edge-homed, close-draft, closed}
-use Rattle.book.specs.Lawful.{kind-in, EdgeRanged, RetreatRanged, Homed, Departs, Nearer, LawfulKind}
+use Rattle.book.specs.Lawful.{kind-in, RetreatRanged, Homed, Departs, Nearer, LawfulKind}
 use Rattle.protocol.proofs.Answers.{allows, is-allowed, each-answer, all-answers}
 use Rattle.book.proofs.Lookups.{edge-found, edge-there, edge-leads, retreat-found, retreat-there, retreat-is}
 use Rattle.book.proofs.Entering.{Entered, lawful-entered, joined, joined-none}

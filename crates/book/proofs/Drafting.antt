@@ -21,6 +21,7 @@ use Rattle.protocol.specs.Slots.{table-in}
 use Rattle.protocol.proofs.Tests.{equal-numbers, other-numbers, same-number}
 use Rattle.protocol.proofs.Lists.{all-more}
 use Rattle.protocol.proofs.Firsts.{first-added, table-added}
+use Rattle.protocol.proofs.Ranges.{edge-ranged}
 use Rattle.book.specs.declared.automaton.Retreat.{Retreat}
 use Rattle.book.specs.declared.automaton.Automaton.{Automaton}
 use Rattle.book.specs.declared.draft.Placed.{Placed}
@@ -28,7 +29,6 @@ use Rattle.book.specs.declared.draft.Draft as code
 use Rattle.book.specs.Kinds.{retreat-of, retreat-in-range}
 use Rattle.book.specs.Reading.{Draft, unplaced, edge-added, retreat-added, add-edge, add-retreat}
 use Rattle.book.specs.Shown.{Drafts, Gives, names, retreats-of, free}
-use Rattle.book.proofs.Entering.{edge-ranged}
 use Rattle.book.proofs.Free.{is-none, free-added}
 use Rattle.book.proofs.Giving.{gives-ok}
 

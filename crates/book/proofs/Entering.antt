@@ -14,14 +14,15 @@ use Rattle.faults.specs.Results.{need}
 use Rattle.faults.proofs.Results.{ok-same, bound, needed, met}
 use Rattle.protocol.specs.declared.edges.Edge.{Edge}
 use Rattle.protocol.specs.Lists.{Each, Apart}
-use Rattle.protocol.specs.Tables.{edge-in-range, table-of}
+use Rattle.protocol.specs.Tables.{EdgeRanged, edge-in-range, table-of}
 use Rattle.protocol.proofs.Tests.{some-of, both, and-true, not-true, is-not, less, is-less}
 use Rattle.protocol.proofs.Lists.{each-in, in-each, each-join, each-parts, apart-more, apart-before}
+use Rattle.protocol.proofs.Ranges.{edge-ranged, ranged-edge}
 use Rattle.book.specs.declared.automaton.Retreat.{Retreat}
 use Rattle.book.specs.declared.draft.Placed.{Placed}
 use Rattle.book.specs.Kinds.{Kind, no-kind, retreat-of, retreat-in-range}
 use Rattle.book.specs.Reading.{Draft, unplaced, drafted, edge-added, add-edge, retreat-added, add-retreat}
-use Rattle.book.specs.Lawful.{Item, edge, retreat, kind-in, EdgeRanged, RetreatRanged, SameEdge, SameStation, LawfulKind}
+use Rattle.book.specs.Lawful.{Item, edge, retreat, kind-in, RetreatRanged, SameEdge, SameStation, LawfulKind}
 use Rattle.book.proofs.Lookups.{edge-found, edge-there, retreat-found, retreat-there}
 
 -- what a kind keeps before it is closed
@@ -54,16 +55,6 @@ joined-item k (edge e) is = joined-assoc k (kind-in (edge e ∷ [])) (kind-in is
 joined-item k (retreat r) is = joined-assoc k (kind-in (retreat r ∷ [])) (kind-in is)
 
 -- Ranges
-
-pub edge-ranged : (e : Edge) → edge-in-range e ≡ true → EdgeRanged e
-edge-ranged e h =
-    let x = both (ltb (e .from) 16) _ h in
-    let y = both (ltb (e .letter) 16) _ (x .1) in
-    let z = both (ltb (e .answer) 4) (ltb (e .to) 16) (y .1) in
-    (less (e .from) 16 (x .0), less (e .letter) 16 (y .0), less (e .answer) 4 (z .0), less (e .to) 16 (z .1))
-
-ranged-edge : (e : Edge) → EdgeRanged e → edge-in-range e ≡ true
-ranged-edge e h = and-true (is-less (h .0)) (and-true (is-less (h .1)) (and-true (is-less (h .2)) (is-less (h .3))))
 
 retreat-ranged : (r : Retreat) → retreat-in-range r ≡ true → RetreatRanged r
 retreat-ranged r h =

@@ -7,6 +7,7 @@ use lib.ListN.{length}
 use Rattle.std.specs.declared.result.Result.the-variants.{Ok}
 use Rattle.protocol.specs.declared.edges.Edge.{Edge}
 use Rattle.protocol.specs.Lists.{Each, Some-one, Apart}
+use Rattle.protocol.specs.Tables.{EdgeRanged}
 use Rattle.book.specs.declared.automaton.Retreat.{Retreat}
 use Rattle.book.specs.Kinds.{Kind}
 use Rattle.book.specs.Reading.{read-book}
@@ -45,9 +46,6 @@ abbrev pub kind-in : List Item → Kind
 kind-in is = record { edges = edges-in is; retreats = retreats-in is }
 
 -- What a kind keeps
-
-abbrev pub EdgeRanged : Edge → Type 0
-EdgeRanged e = (e .from < 16) × (e .letter < 16) × (e .answer < 4) × (e .to < 16)
 
 abbrev pub RetreatRanged : Retreat → Type 0
 RetreatRanged r = (0 < r .station) × (r .station < 16) × (r .letter < 16) × (0 < r .rank) × (r .rank < 16)

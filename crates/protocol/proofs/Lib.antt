@@ -2,4 +2,5 @@ pub mod Tests
 pub mod Lists
 pub mod Firsts
 pub mod Answers
+pub mod Ranges
 mod Balance

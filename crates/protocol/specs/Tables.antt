@@ -35,6 +35,9 @@ successors e s l = e s l 0 ∷ e s l 1 ∷ e s l 2 ∷ e s l 3 ∷ []
 abbrev pub edge-in-range : Edge → Bool
 edge-in-range e = ltb (e .from) 16 && (ltb (e .letter) 16 && (ltb (e .answer) 4 && ltb (e .to) 16))
 
+abbrev pub EdgeRanged : Edge → Type 0
+EdgeRanged e = (e .from < 16) × (e .letter < 16) × (e .answer < 4) × (e .to < 16)
+
 -- the edge is of the station, letter and answer
 abbrev pub leads : Edge → ℕ → ℕ → ℕ → Bool
 leads e s l a = eqb (e .from) s && (eqb (e .letter) l && eqb (e .answer) a)

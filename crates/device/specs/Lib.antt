@@ -1,0 +1,9 @@
+pub mod Meaning
+pub mod Kept
+pub mod Projector
+pub mod LetterMap
+pub mod Patch
+pub mod Trail
+pub mod Ports
+pub mod Built
+pub mod Composed
