@@ -6,5 +6,6 @@ mod Turning
 pub mod Numbered
 pub mod Asking
 pub mod Composed
+mod Stacking
 pub mod Rows
 pub mod Replies

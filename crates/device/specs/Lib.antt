@@ -7,3 +7,4 @@ pub mod Trail
 pub mod Ports
 pub mod Built
 pub mod Composed
+pub mod Stacked

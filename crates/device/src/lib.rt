@@ -15,6 +15,7 @@ mod trail;
 
 pub use answers::REFUSED;
 pub use device::Device;
+pub use laws::layers_stack;
 pub use laws::rigs_compose;
 pub use letter_map::LetterMap;
 pub use patch::Patch;

@@ -2,8 +2,8 @@
 use super::*;
 use device::Before;
 use device::BeforeRig;
-use device::REFUSED;
 use device::PORTS;
+use device::REFUSED;
 use device::Rig;
 use device::Row;
 use device::RowRig;
