@@ -46,4 +46,4 @@ row m ms = record {
 }
 
 pub compose : Rigs-compose
-compose m ms = subst (λ (g : Ports). RowOf m ms g) (sym (nest m ms)) (row m ms)
+compose m ms = let w = row m ms in (subst (λ (g : Ports). RowOf m ms g) (sym (nest m ms)) w, w)

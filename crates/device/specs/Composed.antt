@@ -32,6 +32,6 @@ pub record RowOf (m : Meaning) (ms : List Meaning) (g : Ports) : Type 0 where
   pub missing : (p l a : ℕ) (g′ : Ports) → (IsPort (m ∷ ms) p → ⊥) → RigHears g p l a g′ → (a ≡ 255) × (g′ ≡ g)
   pub silent : (p l : ℕ) → (IsPort (m ∷ ms) p → ⊥) → RigHears g p l 255 g
 
--- any devices, one before the other, are a row of the first eight
+-- any devices, each before the next, stand for themselves, and so do they in a row
 abbrev pub Rigs-compose : Type 0
-Rigs-compose = (m : Meaning) (ms : List Meaning) → RowOf m ms (nested m ms)
+Rigs-compose = (m : Meaning) (ms : List Meaning) → RowOf m ms (nested m ms) × RowOf m ms (row-ports (m ∷ ms))

@@ -2,7 +2,7 @@
 ghost use Rattle.device.specs.Composed.{Rigs-compose};
 ghost use Rattle.device.specs.Stacked.{Layers-stack};
 
-// Devices before one another show what each shows; a letter to a port goes to its device and changes no other.
+// Devices before one another, or in a row, show what each shows; a letter to a port goes to its device and changes no other.
 pub fn rigs_compose()
     ensures { λ _. ⌜ Rigs-compose ⌝ }
 {}
