@@ -21,7 +21,7 @@ pub struct Retreat {
 }
 
 impl Retreat {
-    pub fn in_range(&self) -> bool
+    pub(crate) fn in_range(&self) -> bool
         ensures { λ r. ⌜ r ≡ retreat-in-range (now (self .entry)) ⌝ }
     {
         0 < self.station
@@ -40,7 +40,7 @@ pub struct Automaton {
 }
 
 impl Automaton {
-    pub fn new() -> Automaton
+    pub(crate) fn new() -> Automaton
         ensures { λ r. ⌜ Shows r no-kind ⌝ ∗ ⌜ free (r .retreats) ≡ 16 ⌝ }
     {
         let edges = EdgeTable::new();
@@ -50,7 +50,7 @@ impl Automaton {
         }
     }
 
-    pub fn retreat(&self, station: u8) -> Option<Retreat>
+    pub(crate) fn retreat(&self, station: u8) -> Option<Retreat>
         ensures { λ r. ⌜ r ≡ retreats-of (now (self .entry)) station ⌝ }
     {
         if station < STATIONS {
@@ -61,7 +61,7 @@ impl Automaton {
     }
 
     // The rank of a station; 0 at away, and where there is no retreat.
-    pub fn rank(&self, station: u8) -> u8
+    pub(crate) fn rank(&self, station: u8) -> u8
         ensures { λ r. ⌜ r ≡ rank-of (retreats-of (now (self .entry)) station) ⌝ }
     {
         match self.retreat(station) {
@@ -80,7 +80,7 @@ impl Automaton {
     }
 
     // The letter is allowed, and every answer to it leads to a smaller rank.
-    pub fn falls(&self, retreat: Retreat) -> bool
+    pub(crate) fn falls(&self, retreat: Retreat) -> bool
         ensures { λ r. ⌜ r ≡ falls (edges-of (now (self .entry))) (retreats-of (now (self .entry))) retreat ⌝ }
     {
         self.edges.allowed(retreat.station, retreat.letter)
@@ -91,7 +91,7 @@ impl Automaton {
     }
 
     // Takes in a retreat that is in range and new; any other changes nothing.
-    pub fn add_retreat(&mut self, retreat: Retreat) -> bool
+    pub(crate) fn add_retreat(&mut self, retreat: Retreat) -> bool
         ensures answer { λ r. ⌜ r ≡ (retreat-in-range retreat && not (isSome (retreats-of (now (self .entry)) (retreat .station)))) ⌝ }
         ensures edges { λ _. ⌜ now (self .exit) .edges ≡ now (self .entry) .edges ⌝ }
         ensures after { λ r. ⌜ ((s : ℕ) → retreats-of (now (self .exit)) s ≡ cond (r && eqb (retreat .station) s) (Some retreat) (retreats-of (now (self .entry)) s)) ⌝ }

@@ -36,7 +36,7 @@ pub struct Draft {
 }
 
 impl Draft {
-    pub fn new(place: u16) -> Draft
+    pub(crate) fn new(place: u16) -> Draft
         ensures { λ r. ⌜ Drafts r (record { place = place; edges = []; retreats = [] }) ⌝ }
     {
         let automaton = Automaton::new();
@@ -57,7 +57,7 @@ impl Draft {
         }
     }
 
-    pub fn add_edge(&mut self, place: u16, edge: Edge) -> Result<(), Fault>
+    pub(crate) fn add_edge(&mut self, place: u16, edge: Edge) -> Result<(), Fault>
         ensures { λ r. ⌜ ((x : Reading-draft) → Drafts (now (self .entry)) x → Gives (λ _ y. Drafts (now (self .exit)) y) r (add-edge x place edge)) ⌝ }
     {
         if !edge.in_range() {
@@ -71,7 +71,7 @@ impl Draft {
         Ok(())
     }
 
-    pub fn add_retreat(&mut self, place: u16, retreat: Retreat) -> Result<(), Fault>
+    pub(crate) fn add_retreat(&mut self, place: u16, retreat: Retreat) -> Result<(), Fault>
         requires { ⌜ now self .count + free (now self .automaton .retreats) ≡ 16 ⌝ }
         ensures { λ r. ⌜ ((x : Reading-draft) → Drafts (now (self .entry)) x → Gives (λ _ y. Drafts (now (self .exit)) y) r (add-retreat x place retreat)) ⌝ }
     {
@@ -112,7 +112,7 @@ impl Draft {
         Ok(())
     }
 
-    pub fn close(&self) -> Result<Automaton, Fault>
+    pub(crate) fn close(&self) -> Result<Automaton, Fault>
         requires { ⌜ now self .count ≤ 16 ⌝ }
         ensures { λ r. ⌜ ((x : Reading-draft) → Drafts (now (self .entry)) x → Gives Shows r (close-draft x)) ⌝ }
     {

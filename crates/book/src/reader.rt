@@ -24,7 +24,7 @@ pub struct Reader {
 }
 
 impl Reader {
-    pub fn new() -> Reader
+    pub(crate) fn new() -> Reader
         ensures { λ r. ⌜ Reads r start ⌝ }
     {
         Reader {
@@ -34,7 +34,7 @@ impl Reader {
     }
 
     // Closes the kind that is being declared, if there is one.
-    pub fn close(&mut self) -> Result<(), Fault>
+    pub(crate) fn close(&mut self) -> Result<(), Fault>
         requires { ⌜ Fits (now self) ⌝ }
         ensures { λ r. ⌜ ((x : Reading) → Reads (now (self .entry)) x → Gives (λ _ ks. Reads (now (self .exit)) (record { kinds = ks; draft = None })) r (closed x)) ⌝ }
     {
@@ -101,7 +101,7 @@ impl Reader {
     }
 
     // Takes the first command of the bytes, which stands at the place, and gives the rest.
-    pub fn declare<'a>(&mut self, place: u16, bytes: &'a [u8]) -> Result<&'a [u8], Fault>
+    pub(crate) fn declare<'a>(&mut self, place: u16, bytes: &'a [u8]) -> Result<&'a [u8], Fault>
         requires { ⌜ Fits (now self) ⌝ }
         ensures { λ r. ⌜ ((x : Reading) → Reads (now (self .entry)) x → Gives (Took (now (self .exit)) (suc (width (first-code (now (bytes .entry))))) (now (bytes .entry))) r (declare-first x place (now (bytes .entry)))) ⌝ }
     {
@@ -115,7 +115,7 @@ impl Reader {
 }
 
 // The tables of the kinds that the bytes declare, or the first fault.
-pub fn read(bytes: &[u8]) -> Result<Tables, Fault>
+pub(crate) fn read(bytes: &[u8]) -> Result<Tables, Fault>
     ensures { λ r. ⌜ Gives Listed r (read-book (now (bytes .entry))) ⌝ }
 {
     if bytes.len() > MOST_BYTES {

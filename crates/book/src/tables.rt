@@ -14,7 +14,7 @@ pub struct Tables {
 }
 
 impl Tables {
-    pub fn new() -> Tables
+    pub(crate) fn new() -> Tables
         ensures { λ r. ⌜ Listed r [] ⌝ }
     {
         let none = Automaton::new();
@@ -24,7 +24,7 @@ impl Tables {
         }
     }
 
-    pub fn add(&mut self, automaton: Automaton)
+    pub(crate) fn add(&mut self, automaton: Automaton)
         requires { ⌜ now self .count < 8 ⌝ }
         ensures after { λ _. ⌜ now (self .exit) ≡ with-automaton (now (self .entry)) automaton ⌝ }
         ensures whole { λ _. ⌜ length (now (self .entry) .automata) ≡ 8 ⌝ }
@@ -34,7 +34,7 @@ impl Tables {
         self.count = count + 1;
     }
 
-    pub fn edge(&self, kind: u8, station: u8, letter: u8, answer: u8) -> Option<u8>
+    pub(crate) fn edge(&self, kind: u8, station: u8, letter: u8, answer: u8) -> Option<u8>
         requires { ⌜ now self .count ≤ 8 ⌝ }
         ensures { λ r. ⌜ r ≡ edge-in (now (self .entry)) (record { kind = kind; station = station; letter = letter; answer = answer }) ⌝ }
     {
@@ -46,7 +46,7 @@ impl Tables {
         }
     }
 
-    pub fn retreat(&self, kind: u8, station: u8) -> Option<Retreat>
+    pub(crate) fn retreat(&self, kind: u8, station: u8) -> Option<Retreat>
         requires { ⌜ now self .count ≤ 8 ⌝ }
         ensures { λ r. ⌜ r ≡ retreat-in (now (self .entry)) kind station ⌝ }
     {
