@@ -15,7 +15,8 @@ use Rattle.device.specs.Meaning.{Meaning, Hears}
 use Rattle.device.specs.Projector.{projector-edges, projector-table, projected, projector-meaning, replies-of, next-reply, answer-of, arrived}
 use Rattle.protocol.proofs.Ranges.{each-led}
 use Rattle.device.specs.Kept.{projector-ranged}
-use Rattle.device.proofs.Hearing.{allows, not-allowed, moves-to, jams-so}
+use Rattle.protocol.proofs.Answers.{allows}
+use Rattle.device.proofs.Hearing.{not-allowed, moves-to, jams-so}
 
 pub no-replies : (rs : List ℕ) → length rs ≡ 0 → rs ≡ []
 no-replies [] e = refl

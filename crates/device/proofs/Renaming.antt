@@ -14,7 +14,8 @@ use Rattle.device.specs.LetterMap.{down}
 use Rattle.device.specs.Meaning.{Meaning, Lawful, Hears, moves, jams}
 use Rattle.device.specs.Patch.{led-by, renamed, patched, passes, HeardBelow}
 use Rattle.device.specs.Kept.{patch-lawful}
-use Rattle.device.proofs.Hearing.{allows, is-allowed, moves-to, jams-so}
+use Rattle.protocol.proofs.Answers.{allows, allowed-ranged}
+use Rattle.device.proofs.Hearing.{moves-to, jams-so}
 
 -- nothing is allowed where a device is jammed
 pub jammed-allows : (e : Table) → Ranged e → (l : ℕ) → allowed e 16 l ≡ false
@@ -46,7 +47,7 @@ module _ (map : LetterMap) (h l₀ a₀ l : ℕ) (m : Meaning) (law : Lawful m) 
 
       not : Allowed (renamed map (m .table)) s l → ⊥
       not w =
-          let yes-allowed : allowed (renamed map (m .table)) s l ≡ true = is-allowed (renamed map (m .table)) (ranged map l m law) s l w in
+          let yes-allowed : allowed (renamed map (m .table)) s l ≡ true = allowed-ranged (renamed map (m .table)) (ranged map l m law) s l w in
           let nowhere : down map l ≡ None = ap (λ b. cond b (down map l) None) (sym yes-allowed) ∙ e in
           none-some (ap (λ o. led-by (m .table) s o (w .0)) (sym nowhere) ∙ w .2)
 

@@ -1,5 +1,5 @@
 -- Letters that are allowed, and the answers to them.
-use mathlib.Core.Path.{_≡_, refl}
+use mathlib.Core.Path.{_≡_, refl, ap}
 use mathlib.Core.Logic.{inl, inr}
 use mathlib.Core.Bool.{Bool, true}
 use Prim.Native.Nat.{ℕ, zero, suc, _<_}
@@ -7,7 +7,7 @@ use native.Mathlib.Omega.{arith}
 use Rattle.std.specs.declared.option.Option.{Option}
 use Rattle.std.specs.Options.{isSome}
 use Rattle.protocol.specs.Lists.{all}
-use Rattle.protocol.specs.Tables.{Table, Allowed, allowed, successors}
+use Rattle.protocol.specs.Tables.{Table, Ranged, Allowed, allowed, successors}
 use Rattle.protocol.proofs.Tests.{some-of, both, and-true, either, or-left, or-right}
 
 pub allows : (e : Table) (s l : ℕ) → allowed e s l ≡ true → Allowed e s l
@@ -28,6 +28,10 @@ is-allowed e s l (suc zero) lt h = or-right (isSome (e s l 0)) (or-left _ h)
 is-allowed e s l (suc (suc zero)) lt h = or-right (isSome (e s l 0)) (or-right (isSome (e s l 1)) (or-left _ h))
 is-allowed e s l (suc (suc (suc zero))) lt h = or-right (isSome (e s l 0)) (or-right (isSome (e s l 1)) (or-right (isSome (e s l 2)) h))
 is-allowed e s l (suc (suc (suc (suc a)))) lt h = absurd (omega arith)
+
+-- in a table in range the answers 0 to 3 are all
+pub allowed-ranged : (e : Table) → Ranged e → (s l : ℕ) → Allowed e s l → allowed e s l ≡ true
+allowed-ranged e r s l w = is-allowed e s l (w .0) (r s l (w .0) (w .1) (w .2) .2) (ap isSome (w .2))
 
 module _ (f : Option ℕ → Bool) (e : Table) (s l : ℕ) where
   pub each-answer : all f (successors e s l) ≡ true → (a : ℕ) → a < 4 → f (e s l a) ≡ true

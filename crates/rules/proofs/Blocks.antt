@@ -22,8 +22,8 @@ use Rattle.rules.specs.Check.{Checks, agreed, undeclared-empty, branches, join
 use Rattle.rules.specs.Keys.{InRange, Shallow, LaidOut, laid-end, laid-then, Binds, BlockKeys, ends, goes-on, CommandKeys, sends, asks, repeats, runs, stores, decs, cues, fails}
 use Rattle.rules.proofs.Lists.{below, all-below, same-lists, same-self, different, are-distinct}
 use Rattle.rules.proofs.Ranges.{range-so, range-passes, depth-so, depth-passes}
-use Rattle.protocol.proofs.Answers.{allows}
-use Rattle.rules.proofs.Tables.{row, is-allowed}
+use Rattle.protocol.proofs.Answers.{allows, allowed-ranged}
+use Rattle.rules.proofs.Tables.{row}
 use Rattle.rules.proofs.Reading.{Whole, reads-within, no-first}
 use Rattle.rules.proofs.Derived.{BlocksLaid, first-derived, end-derived}
 use Rattle.rules.proofs.Branches.{or-some, agreed-all, all-agreed, undeclared-all, all-undeclared, branches-end, end-branches, some-branch, join-alike, alike-join}
@@ -145,7 +145,7 @@ module _ (x : Scope) (ranged : (h : ℕ) → Ranged (table-at x h)) (check : Che
       let E : Table = table-at x h in
       let ts : List (Option ℕ) = successors E (at ks h) l in
       let line : (a : ℕ) → getD ts a None ≡ E (at ks h) l a = row E (ranged h) (at ks h) l in
-      met (allowed E (at ks h) l) _ _ (is-allowed E (ranged h) (at ks h) l al)
+      met (allowed E (at ks h) l) _ _ (allowed-ranged E (ranged h) (at ks h) l al)
       ∙ ap (λ o. or-fault o (key-fault AnswersDiffer place) >>= (λ u. Ok (set ks h u)))
       (all-agreed ts t (al .0) (al .1) (line (al .0) ∙ al .2) (λ a u q. one a u (sym (line a) ∙ q)))
 
@@ -159,7 +159,7 @@ module _ (x : Scope) (ranged : (h : ℕ) → Ranged (table-at x h)) (check : Che
       let line : (a : ℕ) → getD ts a None ≡ E (at ks h) l a = row E (ranged h) (at ks h) l in
       let w = end-branches check ks h ks′ ts bs (λ a t q. on a t (sym (line a) ∙ q)) in
       let some = some-branch check ks h ks′ ts bs (w .0) (al .0) (al .1) (w .1) (line (al .0) ∙ al .2) in
-      met (allowed E (at ks h) l) _ _ (is-allowed E (ranged h) (at ks h) l al)
+      met (allowed E (at ks h) l) _ _ (allowed-ranged E (ranged h) (at ks h) l al)
       ∙ met (undeclared-empty ts bs) _ _ (all-undeclared ts bs (λ a q. off a (sym (line a) ∙ q)))
       ∙ follows (λ (ends : List Keys). or-fault (join ends) (key-fault EndsDiffer place)) (w .1)
       ∙ ap (λ o. or-fault o (key-fault EndsDiffer place)) (alike-join check ks h ks′ (w .0) some (w .2))
