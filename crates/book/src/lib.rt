@@ -1,4 +1,6 @@
 // Books: kinds of device as automata with retreats, declared in bytes.
+#![tactic(auto)]
+
 mod automaton;
 mod book;
 mod draft;

@@ -1,4 +1,6 @@
 // The console: lines of input, and the answer to each.
+#![tactic(auto)]
+
 mod answer;
 mod hex;
 mod line;

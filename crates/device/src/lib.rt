@@ -1,4 +1,6 @@
 // Devices by what they mean, layers over them, and rigs of ports.
+#![tactic(auto)]
+
 mod answers;
 mod device;
 mod laws;

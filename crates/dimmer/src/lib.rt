@@ -1,4 +1,6 @@
 // A lamp behind a dimmer: a small device, to be copied.
+#![tactic(auto)]
+
 ghost use Rattle.std.specs.Prelude.{◌≡◌, ◌^◌, ◌<◌, [], ◌∷◌};
 ghost use Rattle.dimmer.specs.Lamp.{dimmer_ranged, dimmer_rule, dimmer_table, level_after, reply_of};
 

@@ -1,4 +1,6 @@
 // Why a call refuses, and where: a cause from one of four layers, and a place.
+#![tactic(auto)]
+
 mod causes;
 mod fault;
 mod text;

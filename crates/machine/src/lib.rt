@@ -1,4 +1,6 @@
 // The player as a definition: its machine, its calls and runs of calls, and that every run keeps the protocols of its ports.
+#![tactic(auto)]
+
 ghost use Rattle.machine.specs.Evening.{Evening};
 ghost use Rattle.machine.specs.Examples.{Examples};
 ghost use Rattle.machine.specs.Going.{AnswersSettle};

@@ -1,4 +1,6 @@
 // Protocols of devices: stations, letters, answers, and the edges between stations.
+#![tactic(auto)]
+
 ghost use Rattle.protocol.specs.Paths.{PathsBalance};
 
 mod edges;

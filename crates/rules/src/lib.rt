@@ -1,4 +1,6 @@
 // Scripts: what they are, the check of one as a definition, the rules of layout and keys, and that the two agree.
+#![tactic(auto)]
+
 ghost use Rattle.rules.specs.Examples.{Examples};
 ghost use Rattle.rules.specs.Keys.{CheckDecides};
 

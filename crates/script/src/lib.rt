@@ -1,4 +1,6 @@
 // Scripts: reading their commands and parts, and the check of one.
+#![tactic(auto)]
+
 mod answers;
 mod bindings;
 mod block;

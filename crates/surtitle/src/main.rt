@@ -1,4 +1,6 @@
 // Answers the lines of standard input, or checks the book in a file.
+#![tactic(auto)]
+
 mod failure;
 mod request;
 
