@@ -1,5 +1,5 @@
 -- A book, read to its end.
-use Rattle.std.proofs.Common.{◌≡◌, ℕ, zero, suc, ◌+◌, ◌-◌, ◌<◌, ◌≤◌, leb, List, [], ◌∷◌, length, take, drop, None, Ok, Err, Result, sym, refl, ap, ◌∙◌, subst, arith, le→leb, length-drop, drop-drop, Bor, MutBor}
+use Rattle.std.proofs.Common.{◌≡◌, ℕ, zero, suc, ◌+◌, ◌-◌, ◌<◌, ◌≤◌, leb, List, [], ◌∷◌, length, take, drop, None, Ok, Err, Result, sym, refl, ap, ◌∙◌, subst, arith, le→leb, length-drop, drop-drop, Bor}
 use Rattle.faults.specs.declared.fault.Fault.{Fault}
 use Rattle.faults.specs.Results.{◌>>=◌}
 use Rattle.faults.proofs.Results.{met, follows}
@@ -68,7 +68,7 @@ module _ (bytes : List ℕ) (r : Reader) (rest : List ℕ) (w : Left bytes r res
   f : Front w.limit at rest w.reading
   f = front w.limit at rest w.reading lt w.enough
 
-  pub left_on : (r' : Reader) (rest' : MutBor (List ℕ)) → Gives (Took r' (suc (width (first_code rest))) rest) (Ok rest') (declare_first w.reading at rest) →
+  pub left_on : (r' : Reader) (rest' : Bor (List ℕ)) → Gives (Took r' (suc (width (first_code rest))) rest) (Ok rest') (declare_first w.reading at rest) →
       Left bytes r' rest'.now × (length rest'.now < length rest)
   left_on r' rest' g =
       let y = given_ok (Took r' (suc (width (first_code rest))) rest) rest' (declare_first w.reading at rest) g in

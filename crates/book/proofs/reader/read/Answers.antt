@@ -9,28 +9,28 @@ loop-rest-init c =
     let short : length c.args.bytes.now ≤ 8192 = search rules in
     left_start c.args.bytes.now c.new-reader.result short c.new-reader.ensures
 
-pub returns-in-err-rest : goal.returns-in-err-rest
-returns-in-err-rest c =
-    let p = err_from_is_err_and c.from-residual.result c.from-residual.ensures.1 in
+pub returns-in_err-rest : goal.returns-in_err-rest
+returns-in_err-rest c =
+    let p = err_from_is_err_and c.from_residual.result c.from_residual.ensures.1 in
     let w = c.loop-rest.invariant in
     let some : 0 < length c.loop-rest.rest.now = search rules in
-    gives_exit _ _ _ _ _ p.1 p.2 (left_fails c.args.bytes.now c.loop-rest.reader c.loop-rest.rest.now w some c.declare.new.self _ (c.in-err-rest.ensures w.reading w.reads))
+    gives_exit _ _ _ _ _ p.1 p.2 (left_fails c.args.bytes.now c.loop-rest.reader c.loop-rest.rest.now w some c.declare.new.self _ (c.in_err-rest.ensures w.reading w.reads))
 
 pub loop-rest-preserved : goal.loop-rest-preserved
 loop-rest-preserved c =
     let w = c.loop-rest.invariant in
     let some : 0 < length c.loop-rest.rest.now = search rules in
-    (left_on c.args.bytes.now c.loop-rest.reader c.loop-rest.rest.now w some c.declare.new.self c.in-ok-rest.rest (c.in-ok-rest.ensures w.reading w.reads)).0
+    (left_on c.args.bytes.now c.loop-rest.reader c.loop-rest.rest.now w some c.declare.new.self c.in_ok-rest.rest (c.in_ok-rest.ensures w.reading w.reads)).0
 
-pub returns-in-err-close : goal.returns-in-err-close
-returns-in-err-close c =
-    let p = err_from_is_err_and c.from-residual-in-err-close.result c.from-residual-in-err-close.ensures.1 in
+pub returns-in_err-close : goal.returns-in_err-close
+returns-in_err-close c =
+    let p = err_from_is_err_and c.from_residual-in_err-close.result c.from_residual-in_err-close.ensures.1 in
     let w = c.loop-rest.invariant in
     let none : length c.loop-rest.rest.now ≡ 0 = search rules in
-    gives_exit _ _ _ _ _ p.1 p.2 (end_fails c.args.bytes.now c.loop-rest.reader c.loop-rest.rest.now w none c.close.new.self _ (c.in-err-close.ensures w.reading w.reads))
+    gives_exit _ _ _ _ _ p.1 p.2 (end_fails c.args.bytes.now c.loop-rest.reader c.loop-rest.rest.now w none c.close.new.self _ (c.in_err-close.ensures w.reading w.reads))
 
 pub returns : goal.returns
 returns c =
     let w = c.loop-rest.invariant in
     let none : length c.loop-rest.rest.now ≡ 0 = search rules in
-    end_passes c.args.bytes.now c.loop-rest.reader c.loop-rest.rest.now w none c.close.new.self (c.in-ok-close.ensures w.reading w.reads)
+    end_passes c.args.bytes.now c.loop-rest.reader c.loop-rest.rest.now w none c.close.new.self (c.in_ok-close.ensures w.reading w.reads)

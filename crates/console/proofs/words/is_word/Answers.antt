@@ -6,5 +6,5 @@ use Rattle.console.proofs.words.is_word.Goals as goal
 
 pub returns : goal.returns
 returns c =
-    same_from_decides c.eq.result (bytes_eq c.args.word.now c.as-bytes.result.now) (slice_eq-Decides Decides-eqb c.args.word.now c.as-bytes.result.now c.eq.result c.eq.ensures) (bytes_eq-Decides c.args.word.now c.as-bytes.result.now)
-    ∙ ap (bytes_eq c.args.word.now) c.as-bytes.ensures.value
+    same_from_decides c.eq.result (bytes_eq c.args.word.now c.as_bytes.result.now) (slice_eq-Decides Decides-eqb c.args.word.now c.as_bytes.result.now c.eq.result c.eq.ensures) (bytes_eq-Decides c.args.word.now c.as_bytes.result.now)
+    ∙ ap (bytes_eq c.args.word.now) c.as_bytes.ensures.value

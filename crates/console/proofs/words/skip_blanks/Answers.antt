@@ -8,11 +8,11 @@ use Rattle.console.proofs.words.skip_blanks.Goals as goal
 pub loop-i-preserved : goal.loop-i-preserved
 loop-i-preserved c =
     goes_on is_blank c.args.line.now c.loop-i.i c.loop-i.invariant c.loop-i-test.true
-    (sym c.is_blank.ensures ∙ c.if-not-is-blank.false)
+    (sym c.is_blank.ensures ∙ c.if-not-is_blank.false)
 
-pub returns-then-not-is-blank : goal.returns-then-not-is-blank
-returns-then-not-is-blank c =
-    let here = stops is_blank c.args.line.now c.loop-i.i c.loop-i.invariant c.loop-i-test.true (sym c.is_blank.ensures ∙ c.if-not-is-blank.true) in
+pub returns-then-not-is_blank : goal.returns-then-not-is_blank
+returns-then-not-is_blank c =
+    let here = stops is_blank c.args.line.now c.loop-i.i c.loop-i.invariant c.loop-i-test.true (sym c.is_blank.ensures ∙ c.if-not-is_blank.true) in
     take_rest c.args.line.now c.loop-i.i ∙ ap (λ n. drop n c.args.line.now) (sym here)
 
 pub returns : goal.returns

@@ -8,14 +8,14 @@ use Rattle.console.proofs.words.split_word.Goals as goal
 pub loop-i-preserved : goal.loop-i-preserved
 loop-i-preserved c =
     goes_on in_word c.args.line.now c.loop-i.i c.loop-i.invariant c.loop-i-test.true
-    (ap not (sym c.is_blank.ensures ∙ c.if-is-blank.false))
+    (ap not (sym c.is_blank.ensures ∙ c.if-is_blank.false))
 
-pub returns-then-is-blank : goal.returns-then-is-blank
-returns-then-is-blank c =
-    let here = stops in_word c.args.line.now c.loop-i.i c.loop-i.invariant c.loop-i-test.true (ap not (sym c.is_blank.ensures ∙ c.if-is-blank.true)) in
+pub returns-then-is_blank : goal.returns-then-is_blank
+returns-then-is_blank c =
+    let here = stops in_word c.args.line.now c.loop-i.i c.loop-i.invariant c.loop-i-test.true (ap not (sym c.is_blank.ensures ∙ c.if-is_blank.true)) in
     record {
-      word = c.split-at.ensures.front ∙ ap (λ n. take n c.args.line.now) (sym here);
-      rest = c.split-at.ensures.back ∙ ap (λ n. drop n c.args.line.now) (sym here);
+      word = c.split_at.ensures.front ∙ ap (λ n. take n c.args.line.now) (sym here);
+      rest = c.split_at.ensures.back ∙ ap (λ n. drop n c.args.line.now) (sym here);
     }
 
 pub returns : goal.returns

@@ -10,10 +10,10 @@ returns-in-len1-up-len1-up t c =
     let lo : 0 < length c.args.outs.now = grind (arith, nat_tests) in
     rw (hand_first c.args.keys c.args.bound.now c.args.outs.now lb lo) (simp (take_rest, c.moved.ensures) at c.hand_over.ensures)
 
-pub returns-in-default : goal.returns-in-default
-returns-in-default t c =
+pub returns-in_default : goal.returns-in_default
+returns-in_default t c =
     let le : length c.args.bound.now ≤ 0 = grind (arith, nat_tests) in sym (hand_none c.args.keys c.args.bound.now c.args.outs.now le)
 
-pub returns-in-default·2 : goal.returns-in-default·2
-returns-in-default·2 t c =
+pub returns-in_default·2 : goal.returns-in_default·2
+returns-in_default·2 t c =
     let le : length c.args.outs.now ≤ 0 = grind (arith, nat_tests) in sym (hand_nowhere c.args.keys c.args.bound.now c.args.outs.now le)

@@ -8,12 +8,12 @@ use Rattle.script.specs.Scripts.{check_main}
 use Rattle.script.proofs.Mains.{main_last}
 use Rattle.script.proofs.reader.check_main.Goals as needs_of
 
-pub returns-then-not-is-away : needs_of.returns-then-not-is-away
-returns-then-not-is-away c =
+pub returns-then-not-is_away : needs_of.returns-then-not-is_away
+returns-then-not-is_away c =
     let p = c.main-item.result in
     let some : 0 < length c.args.parts.now = search rules in
     ap (λ (e : Fault). Err e) c.at.ensures
-    ∙ ap (λ (b : Bool). need b (key_fault MainHeld p.place)) c.if-not-is-away.ensures
+    ∙ ap (λ (b : Bool). need b (key_fault MainHeld p.place)) c.if-not-is_away.ensures
     ∙ sym (main_last c.args.parts.now p some c.main-item.is)
 
 pub returns-in-rest : needs_of.returns-in-rest
@@ -25,5 +25,5 @@ pub returns : needs_of.returns
 returns c =
     let p = c.main-item.result in
     let some : 0 < length c.args.parts.now = search rules in
-    ap (λ (b : Bool). need b (key_fault MainHeld p.place)) c.if-not-is-away.ensures
+    ap (λ (b : Bool). need b (key_fault MainHeld p.place)) c.if-not-is_away.ensures
     ∙ sym (main_last c.args.parts.now p some c.main-item.is)

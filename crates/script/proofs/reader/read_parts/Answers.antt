@@ -14,9 +14,9 @@ loop-place-init c =
     let bs = c.args.bytes.now in
     (omega arith, ap (λ (n : ℕ). check_parts (17 - n) book (map (shown bs) (take n c.new-parts.result.items)) 0 bs) (sym c.new-parts.ensures))
 
-pub returns-in-err-part : goal.returns-in-err-part
-returns-in-err-part c =
-    let p = err_from_is_err_and c.from-residual.result c.from-residual.ensures.1 in
+pub returns-in_err-part : goal.returns-in_err-part
+returns-in_err-part c =
+    let p = err_from_is_err_and c.from_residual.result c.from_residual.ensures.1 in
     let book = kinds_held c.args.book.now in
     let bs = c.args.bytes.now in
     let t = c.loop-place.parts in
@@ -25,10 +25,10 @@ returns-in-err-part c =
     rw (p.1, p.2)
     (c.loop-place.invariant.1 ∙ ap (λ (n : ℕ). check_parts n book (shown_parts bs t) at (drop at bs)) fuel
     ∙ left_stops book bs (16 - t.count) (shown_parts bs t) at _ (omega arith)
-    (ap (λ (v : List Part). next_part book (map (shown bs) v) at (drop at bs)) (sym c.as-slice.ensures.listed) ∙ c.in-err-part.ensures.gives))
+    (ap (λ (v : List Part). next_part book (map (shown bs) v) at (drop at bs)) (sym c.as_slice.ensures.listed) ∙ c.in_err-part.ensures.gives))
 
 pub add-requires : goal.add-requires
-add-requires c = omega (arith, c.in-ok-part.ensures.few)
+add-requires c = omega (arith, c.in_ok-part.ensures.few)
 
 pub loop-place-preserved : goal.loop-place-preserved
 loop-place-preserved c =
@@ -36,10 +36,10 @@ loop-place-preserved c =
     let bs = c.args.bytes.now in
     let t = c.loop-place.parts in
     let at = c.loop-place.place in
-    let w = c.in-ok-part.ensures in
+    let w = c.in_ok-part.ensures in
     let few : t.count < 16 = omega (arith, w.few) in
-    let next = ap (λ (v : List Part). next_part book (map (shown bs) v) at (drop at bs)) (sym c.as-slice.ensures.listed) ∙ w.gives.0 in
-    (omega (arith, w.gives.1.0, w.gives.2), c.loop-place.invariant.1 ∙ left_turn book bs t c.add.new.self at c.in-ok-part.part (omega arith) few c.add.ensures.counted c.add.ensures.listed (next, w.gives.1, w.gives.2))
+    let next = ap (λ (v : List Part). next_part book (map (shown bs) v) at (drop at bs)) (sym c.as_slice.ensures.listed) ∙ w.gives.0 in
+    (omega (arith, w.gives.1.0, w.gives.2), c.loop-place.invariant.1 ∙ left_turn book bs t c.add.new.self at c.in_ok-part.part (omega arith) few c.add.ensures.counted c.add.ensures.listed (next, w.gives.1, w.gives.2))
 
 pub returns : goal.returns
 returns c =

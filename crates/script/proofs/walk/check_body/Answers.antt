@@ -8,18 +8,18 @@ use Rattle.script.specs.Pieces.{piece}
 use Rattle.script.proofs.Walking.{body_ends}
 use Rattle.script.proofs.walk.check_body.Goals as goal
 
-pub returns-in-err-end : goal.returns-in-err-end
-returns-in-err-end c =
-    let p = err_from_is_err_and c.from-residual.result c.from-residual.ensures.1 in
-    rw (p.1, p.2) (sym (body_ends (scope_of c.args.scope.now) (piece c.body.result) _ c.body.ensures.value c.in-err-end.ensures))
+pub returns-in_err-end : goal.returns-in_err-end
+returns-in_err-end c =
+    let p = err_from_is_err_and c.from_residual.result c.from_residual.ensures.1 in
+    rw (p.1, p.2) (sym (body_ends (scope_of c.args.scope.now) (piece c.body.result) _ c.body.ensures.value c.in_err-end.ensures))
 
-pub returns-then-same-keys : goal.returns-then-same-keys
-returns-then-same-keys c =
-    ap (λ b. required b (key_fault BodyEnd c.args.scope.now.running.place)) c.if-same-keys.ensures
-    ∙ sym (body_ends (scope_of c.args.scope.now) (piece c.body.result) _ c.body.ensures.value c.in-ok-end.ensures)
+pub returns-then-same_keys : goal.returns-then-same_keys
+returns-then-same_keys c =
+    ap (λ b. required b (key_fault BodyEnd c.args.scope.now.running.place)) c.if-same_keys.ensures
+    ∙ sym (body_ends (scope_of c.args.scope.now) (piece c.body.result) _ c.body.ensures.value c.in_ok-end.ensures)
 
-pub returns-else-same-keys : goal.returns-else-same-keys
-returns-else-same-keys c =
+pub returns-else-same_keys : goal.returns-else-same_keys
+returns-else-same_keys c =
     ap Err c.at.ensures
-    ∙ ap (λ b. required b (key_fault BodyEnd c.args.scope.now.running.place)) c.if-same-keys.ensures
-    ∙ sym (body_ends (scope_of c.args.scope.now) (piece c.body.result) _ c.body.ensures.value c.in-ok-end.ensures)
+    ∙ ap (λ b. required b (key_fault BodyEnd c.args.scope.now.running.place)) c.if-same_keys.ensures
+    ∙ sym (body_ends (scope_of c.args.scope.now) (piece c.body.result) _ c.body.ensures.value c.in_ok-end.ensures)

@@ -5,8 +5,8 @@ use Rattle.book.proofs.Free.{free_added}
 use Rattle.book.proofs.Drafting.{retreat_gives}
 use Rattle.book.proofs.draft.Draft.add_retreat.Goals as goal
 
-pub offset-bounds-self-count : goal.offset-bounds-self-count
-offset-bounds-self-count c =
+pub offset_bounds-self-count : goal.offset_bounds-self-count
+offset_bounds-self-count c =
     let r = c.args.retreat in
     let a = c.args.self.now.automaton in
     let whole : length a.retreats ≡ 16 = search rules in
@@ -23,8 +23,8 @@ bounds-self-count c =
     let new : is_some (retreats_of a r.station) ≡ false = search rules in
     omega (arith, free_added a r ok whole new, c.requires)
 
-pub overflow-add-self : goal.overflow-add-self
-overflow-add-self c = omega (arith, c.requires)
+pub overflow_add-self : goal.overflow_add-self
+overflow_add-self c = omega (arith, c.requires)
 
 pub returns : goal.returns
 returns c x w =

@@ -9,5 +9,5 @@ returns c x w =
     let le : 1 ≤ length os = search rules in
     let number : get_or os 0 0 ≡ c.close.new.self.tables.count = search rules in
     let lt : c.close.new.self.tables.count < 8 = search rules in
-    let g = kind_reads c.close.new.self c.new.result x c.args.place os (c.in-ok-close.ensures x w) c.new.ensures number lt le in
+    let g = kind_reads c.close.new.self c.new.result x c.args.place os (c.in_ok-close.ensures x w) c.new.ensures number lt le in
     rw g.1 (g.2, le, take_rest os 1)

@@ -7,11 +7,11 @@ use Rattle.script.specs.Headers.{by_header}
 use Rattle.script.proofs.Headers.{right_fails}
 use Rattle.script.proofs.part.Part.header_fits.Goals as goal
 
-pub returns-then-not-triple-fits : goal.returns-then-not-triple-fits
-returns-then-not-triple-fits c =
+pub returns-then-not-triple_fits : goal.returns-then-not-triple_fits
+returns-then-not-triple_fits c =
     let p = c.args.self.now in
     let fits = triple_fits (kinds_held c.args.book.now) (by_header p) in
-    let not-this : false ≡ fits c.loop-handle.handle = c.if-not-triple-fits.ensures in
+    let not-this : false ≡ fits c.loop-handle.handle = c.if-not-triple_fits.ensures in
     sym (right_fails (ltb 0 p.handles) (right_fails (leb p.handles 8) (fails_below fits 8 c.loop-handle.handle (omega arith) (sym not-this))))
 
 pub returns : goal.returns

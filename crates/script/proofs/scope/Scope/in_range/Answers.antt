@@ -8,7 +8,7 @@ use Rattle.script.proofs.scope.Scope.in_range.Goals as goal
 
 pub returns-in-Some : goal.returns-in-Some
 returns-in-Some c =
-    c.all-fit.ensures ∙ sym (ap (λ (v : Command). in_range (scope_of c.args.self.now) (said v)) c.in-Run.is
+    c.all_fit.ensures ∙ sym (ap (λ (v : Command). in_range (scope_of c.args.self.now) (said v)) c.in-Run.is
     ∙ run_in_range c.args.self.now c.in-Run.part c.in-Run.bindings c.in-Some.part (sym c.part.ensures ∙ c.in-Some.is))
 
 pub returns-in-None : goal.returns-in-None

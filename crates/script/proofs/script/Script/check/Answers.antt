@@ -11,18 +11,18 @@ use Rattle.script.specs.Held.{verdict}
 use Rattle.script.specs.Scripts.{parts_of}
 use Rattle.script.proofs.script.Script.check.Goals as goal
 
-pub returns-in-err-parts : goal.returns-in-err-parts
-returns-in-err-parts c =
-    let p = err_from_is_err_and c.from-residual.result c.from-residual.ensures.1 in
-    rw (p.1, p.2) (record { answer = ap verdict (sym c.in-err-parts.ensures); held = refl; decides = decides })
+pub returns-in_err-parts : goal.returns-in_err-parts
+returns-in_err-parts c =
+    let p = err_from_is_err_and c.from_residual.result c.from_residual.ensures.1 in
+    rw (p.1, p.2) (record { answer = ap verdict (sym c.in_err-parts.ensures); held = refl; decides = decides })
 
-pub invariant-of-self : goal.invariant-of-self
-invariant-of-self c =
+pub invariant_of-self : goal.invariant_of-self
+invariant_of-self c =
     let kinds : kinds_of (read_book c.bytes.result.now) ≡ kinds_held c.args.book.now = ap kinds_of c.bytes.ensures.passes in
-    let checked = ap (λ ks. check_script ks c.args.bytes.now) kinds ∙ c.in-ok-parts.ensures in (
+    let checked = ap (λ ks. check_script ks c.args.bytes.now) kinds ∙ c.in_ok-parts.ensures in (
       ap is_ok c.bytes.ensures.passes,
       (ap is_ok checked, (c.count.ensures ∙ sym (ap (λ (r : Result rules.Script Fault). length (parts_of r)) checked ∙ length-map _ _), tt)),
     )
 
 pub returns : goal.returns
-returns c = record { answer = ap verdict (sym c.in-ok-parts.ensures); held = (c.bytes.ensures.value, refl); decides = decides }
+returns c = record { answer = ap verdict (sym c.in_ok-parts.ensures); held = (c.bytes.ensures.value, refl); decides = decides }
