@@ -1,8 +1,6 @@
 -- A command line by the number of its words.
-use Rattle.std.proofs.Common.{◌≡◌, ℕ, ◌<◌, ◌≤◌, Bool, cond, List, [], ◌∷◌, map, length, get_or, codes, Decides, sym, refl, ap, ◌∙◌, arith}
+use Rattle.std.proofs.Common.{◌≡◌, ℕ, ◌<◌, ◌≤◌, Bool, cond, List, [], ◌∷◌, map, length, get_or, codes, sym, refl, ap, ◌∙◌, arith}
 use Rattle.std.specs.Str.{bytes_eq}
-use Rattle.std.proofs.lemmas.Slice.Eq.{bytes_eq-Decides}
-use Rattle.std.proofs.lemmas.Bool.Decides.{same_from_decides}
 use Rattle.surtitle.specs.Requests.{answers, asked_of, checks, misused}
 
 module _ {X : Type 0} (f : X → List ℕ) where
@@ -26,5 +24,5 @@ module _ {X : Type 0} (f : X → List ℕ) where
   three (a ∷ b ∷ d ∷ e ∷ xs) w p is word = absurd (omega arith)
 
 -- what `==` answered is what the definition tests
-pub tested : (word text name : List ℕ) (r : Bool) → word ≡ text → Decides r (word ≡ name) → r ≡ bytes_eq text name
-tested word text name r is told = same_from_decides r (bytes_eq word name) told (bytes_eq-Decides word name) ∙ ap (λ l. bytes_eq l name) is
+pub tested : (word text name : List ℕ) (r : Bool) → word ≡ text → r ≡ bytes_eq word name → r ≡ bytes_eq text name
+tested word text name r is told = told ∙ ap (λ l. bytes_eq l name) is
