@@ -1,8 +1,8 @@
 -- What the first command of a block is, by its first byte and length.
-use Rattle.std.proofs.Common.{◌≡◌, ℕ, zero, suc, ◌+◌, ◌*◌, ◌≤◌, Bool, true, false, leb, List, [], ◌∷◌, length, get_or, take, drop, sym, refl, ap, ◌∙◌, subst, arith, length-drop, drop-drop}
+use Rattle.std.proofs.Common.{◌≡◌, ℕ, suc, ◌+◌, ◌*◌, ◌≤◌, Bool, true, false, leb, List, [], ◌∷◌, length, get_or, take, drop, sym, refl, ap, ◌∙◌, arith, length-drop, drop-drop}
 use Rattle.std.proofs.lemmas.Bool.Decides.{nat_tests}
 use Rattle.rules.specs.Lists.{word}
-use Rattle.rules.specs.Script.{Block, Read, Code, SEND, ASK, REPEAT, RUN, SET, DEC, CUE, FAIL, code_of, cut, read_operands, send, ask, repeat, run, store, dec, cue, fail, nothing, broken, command, first}
+use Rattle.rules.specs.Script.{Block, Read, ASK, REPEAT, RUN, code_of, cut, read_operands, send, ask, run, store, dec, cue, fail, broken, command, first}
 use Rattle.script.specs.Commands.{ask_at, repeat_at}
 use Rattle.script.specs.Pieces.{past}
 

@@ -1,12 +1,12 @@
 -- The ends of blocks by answer, joined.
-use Rattle.std.proofs.Common.{◌≡◌, Bool, true, cond, ◌&&◌, List, [], ◌∷◌, Some, None, Option, sym, refl, ap, ◌∙◌}
+use Rattle.std.proofs.Common.{◌≡◌, cond, ◌&&◌, List, [], ◌∷◌, Some, None, Option, sym, refl, ap, ◌∙◌}
 use Rattle.std.specs.Option.{option_or}
 use Rattle.protocol.specs.Lists.{all}
 use Rattle.rules.specs.Lists.{same}
 use Rattle.rules.specs.Script.{Keys}
 use Rattle.rules.specs.Check.{join}
 use Rattle.rules.proofs.Lists.{same_self}
-use Rattle.script.specs.Ends.{all_ended, ended_so, somes}
+use Rattle.script.specs.Ends.{all_ended, somes}
 
 all_somes : (ks : Keys) (es : List (Option Keys)) → all_ended ks es ≡ all (same ks) (somes es)
 all_somes ks [] = refl

@@ -1,5 +1,5 @@
 -- Parts that are looked up by their number.
-use Rattle.std.proofs.Common.{◌≡◌, ℕ, ◌<◌, ◌≤◌, true, false, ◌&&◌, ltb, List, map, length, get_or, take, Some, None, Ok, Option, sym, ap, ◌∙◌, subst, arith, Bor}
+use Rattle.std.proofs.Common.{◌≡◌, ℕ, ◌<◌, ◌≤◌, false, ◌&&◌, ltb, List, map, length, get_or, take, Some, None, Ok, Option, sym, ap, ◌∙◌, subst, arith, Bor}
 use native.Mathlib.Decide.{dec_lt}
 use lib.ListN.{length-map}
 use Rattle.std.specs.Option.{option_map}

@@ -1,8 +1,8 @@
 -- Blocks that are read from a block lie within the script where it does.
-use Rattle.std.proofs.Common.{◌≡◌, ℕ, zero, suc, ◌+◌, ◌≤◌, Bool, true, false, leb, List, [], ◌∷◌, length, get_or, drop, refl, subst, arith, lit≤, length-drop, length-take}
+use Rattle.std.proofs.Common.{◌≡◌, ℕ, zero, suc, ◌+◌, ◌≤◌, Bool, true, false, leb, List, [], ◌∷◌, length, drop, refl, subst, arith, lit≤, length-drop, length-take}
 use Rattle.protocol.proofs.Tests.{at_most}
 use Rattle.rules.specs.Lists.{total}
-use Rattle.rules.specs.Script.{Block, no_block, Command, Code, SEND, ASK, REPEAT, RUN, SET, DEC, CUE, FAIL, OTHER, code_of, width, lengths, cut, Read, nothing, broken, command, command_of, read_operands, first}
+use Rattle.rules.specs.Script.{Block, Command, Code, SEND, ASK, REPEAT, RUN, SET, DEC, CUE, FAIL, OTHER, code_of, width, lengths, cut, Read, nothing, broken, command, command_of, read_operands, first}
 use Rattle.script.specs.Pieces.{Within}
 use Rattle.script.specs.Walk.{AllWithin, BlocksWithin}
 

@@ -1,5 +1,5 @@
 -- The tests of lists that the check makes, and what std's answer for them.
-use Rattle.std.proofs.Common.{◌≡◌, ℕ, ◌<◌, Bool, true, eqb, List, [], length, get_or, Decides, sym, ◌∙◌, subst}
+use Rattle.std.proofs.Common.{◌≡◌, ℕ, ◌<◌, Bool, true, eqb, List, length, Decides, sym, ◌∙◌, subst}
 use Rattle.std.specs.List.{HoldsAt, IsAnyAnswer}
 use Rattle.std.proofs.lemmas.List.Elements.{contains_decides}
 use Rattle.std.proofs.lemmas.List.{get_or_default}
@@ -16,5 +16,5 @@ has_decides n xs = (
   λ w. has_at n xs w.0 w.1 (sym (w.2 0)),
 )
 
-pub contains_has : (xs : List ℕ) (n : ℕ) (r : Bool) → IsAnyAnswer (λ y t. Decides t (y ≡ n)) xs r → r ≡ has n xs
+pub contains_has : (xs : List ℕ) (n : ℕ) (r : Bool) → IsAnyAnswer (λ y t. eqb y n ≡ t) xs r → r ≡ has n xs
 contains_has xs n r h = same_from_decides r (has n xs) (contains_decides eqb Decides-eqb xs n r h) (has_decides n xs)

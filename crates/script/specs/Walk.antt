@@ -1,5 +1,5 @@
 -- The check of blocks and commands, shut: what is used of it are the laws in proofs/Walking.
-use Rattle.std.specs.Prelude.{ℕ, suc, List, [], Some, None, Ok, Option, Result, slice_index_or, slice_set}
+use Rattle.std.specs.Prelude.{ℕ, suc, List, Some, None, Ok, Option, Result, slice_index_or, slice_set}
 use Rattle.faults.specs.declared.fault.Fault.{Fault}
 use Rattle.faults.specs.Results.{◌>>=◌}
 use Rattle.rules.specs.Script.{Block, no_block, Command, send, ask, repeat, blocks, Scope, Keys}

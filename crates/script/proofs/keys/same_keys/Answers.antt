@@ -4,4 +4,4 @@ use Rattle.script.proofs.Testing.{same_decides}
 use Rattle.script.proofs.keys.same_keys.Goals as goal
 
 pub returns : goal.returns
-returns c = same_from_decides _ _ (slice_eq-Decides Decides-eqb _ _ _ c.eq.ensures) (same_decides _ _)
+returns c = same_from_decides c.eq.result _ (slice_eq-Decides Decides-eqb c.args.a c.args.b c.eq.result c.eq.ensures) (same_decides c.args.a c.args.b)

@@ -1,14 +1,12 @@
-use Rattle.std.proofs.Common.{◌≡◌, ◌<◌, Bool, length, Err, sym, ap, ◌∙◌, rules}
+use Rattle.std.proofs.Common.{◌<◌, Bool, length, Err, sym, ap, ◌∙◌, rules}
 use Rattle.faults.specs.declared.fault.Fault.{Fault}
 use Rattle.faults.specs.declared.causes.KeyCause.TheVariants.{MainHeld}
 use Rattle.faults.specs.Numbers.{key_fault}
 use Rattle.faults.specs.Results.{need}
-use Rattle.std.proofs.lemmas.List.{nil_from_length}
-use Rattle.script.specs.Scripts.{check_main}
 use Rattle.script.proofs.Mains.{main_last}
-use Rattle.script.proofs.reader.check_main.Goals as needs_of
+use Rattle.script.proofs.reader.check_main.Goals as goal
 
-pub returns-then-not-is_away : needs_of.returns-then-not-is_away
+pub returns-then-not-is_away : goal.returns-then-not-is_away
 returns-then-not-is_away c =
     let p = c.main-item.result in
     let some : 0 < length c.args.parts.now = search rules in
@@ -16,12 +14,7 @@ returns-then-not-is_away c =
     ∙ ap (λ (b : Bool). need b (key_fault MainHeld p.place)) c.if-not-is_away.ensures
     ∙ sym (main_last c.args.parts.now p some c.main-item.is)
 
-pub returns-in-rest : needs_of.returns-in-rest
-returns-in-rest c =
-    let none : length c.args.parts.now ≡ 0 = search rules in
-    sym (ap check_main (nil_from_length c.args.parts.now none))
-
-pub returns : needs_of.returns
+pub returns : goal.returns
 returns c =
     let p = c.main-item.result in
     let some : 0 < length c.args.parts.now = search rules in

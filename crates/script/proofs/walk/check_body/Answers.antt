@@ -1,8 +1,8 @@
-use Rattle.std.proofs.Common.{◌≡◌, Err, sym, ap, ◌∙◌}
+use Rattle.std.proofs.Common.{Err, sym, ap, ◌∙◌}
 use Rattle.std.proofs.lemmas.Result.{err_from_is_err_and}
 use Rattle.faults.specs.declared.causes.KeyCause.TheVariants.{BodyEnd}
 use Rattle.faults.specs.Numbers.{key_fault}
-use Rattle.faults.specs.Results.{goal as required}
+use Rattle.faults.specs.Results.{need as required}
 use Rattle.script.specs.Parts.{scope_of}
 use Rattle.script.specs.Pieces.{piece}
 use Rattle.script.proofs.Walking.{body_ends}

@@ -19,10 +19,12 @@ returns-in_err-parts c =
 pub invariant_of-self : goal.invariant_of-self
 invariant_of-self c =
     let kinds : kinds_of (read_book c.bytes.result.now) ≡ kinds_held c.args.book.now = ap kinds_of c.bytes.ensures.passes in
-    let checked = ap (λ ks. check_script ks c.args.bytes.now) kinds ∙ c.in_ok-parts.ensures in (
-      ap is_ok c.bytes.ensures.passes,
-      (ap is_ok checked, (c.count.ensures ∙ sym (ap (λ (r : Result rules.Script Fault). length (parts_of r)) checked ∙ length-map _ _), tt)),
-    )
+    let checked = ap (λ ks. check_script ks c.args.bytes.now) kinds ∙ c.in_ok-parts.ensures in
+    record {
+      lawful = ap is_ok c.bytes.ensures.passes;
+      passed = ap is_ok checked;
+      counted = c.count.ensures ∙ sym (ap (λ (r : Result rules.Script Fault). length (parts_of r)) checked ∙ length-map _ _);
+    }
 
 pub returns : goal.returns
 returns c = record { answer = ap verdict (sym c.in_ok-parts.ensures); held = (c.bytes.ensures.value, refl); decides = decides }
