@@ -1,14 +1,10 @@
 -- Results that carry the first fault: taken apart, and put together.
-use Rattle.std.proofs.Common.{◌≡◌, ℕ, suc, ◌+◌, ◌<◌, ◌≤◌, Bool, true, false, List, length, get_or, drop, Ok, Err, Result, sym, refl, ap, ◌∙◌, subst, arith, drop-cons}
+use Rattle.std.proofs.Common.{◌≡◌, ℕ, suc, ◌+◌, ◌<◌, ◌≤◌, Bool, true, false, List, length, get_or, drop, Ok, Err, Result, refl, ap, ◌∙◌, arith, drop-cons}
 use Rattle.std.proofs.lemmas.List.{drop_all}
 use Rattle.faults.specs.Results.{◌>>=◌, need, each}
 
-abbrev is_ok : {X E : Type 0} → Result X E → Type 0
-is_ok (Ok x) = Unit {0}
-is_ok (Err e) = ⊥
-
 pub err_ok : {X E : Type 0} {e : E} {x : X} → ◌≡◌ {A = Result X E} (Err e) (Ok x) → ⊥
-err_ok p = subst is_ok (sym p) tt
+err_ok p = cc
 
 pub ok_same : {X E : Type 0} {x y : X} → ◌≡◌ {A = Result X E} (Ok x) (Ok y) → x ≡ y
 ok_same {x = x} p = ap (λ r. elim r [ Ok v ↦ v | Err e ↦ x ]) p

@@ -1,20 +1,16 @@
 -- Options, tests and numbers: taken apart, and put together.
-use Rattle.std.proofs.Common.{◌≡◌, ℕ, suc, ◌<◌, ◌≤◌, Bool, true, false, cond, not, ◌&&◌, ◌||◌, T, eqb, ltb, leb, ◌≢◌, ◌⊎◌, is_some as option_is_some, Some, None, Option, unwrap_or, sym, refl, ap, ◌∙◌, subst, inl, inr, true≢false, arith, le→leb, eqb→eq, ltb→lt, lt→ltb, leb→le, leb-false}
+use Rattle.std.proofs.Common.{◌≡◌, ℕ, suc, ◌<◌, ◌≤◌, Bool, true, false, cond, not, ◌&&◌, ◌||◌, T, eqb, ltb, leb, ◌≢◌, ◌⊎◌, is_some, Some, None, Option, unwrap_or, sym, refl, ap, ◌∙◌, subst, inl, inr, true≢false, arith, le→leb, eqb→eq, ltb→lt, lt→ltb, leb→le, leb-false}
 use lib.Dec.{eqb_refl}
 
 -- Options
 
-abbrev is_some : {X : Type 0} → Option X → Type 0
-is_some (Some x) = Unit {0}
-is_some None = ⊥
-
 pub none_some : {X : Type 0} {x : X} → ◌≡◌ {A = Option X} None (Some x) → ⊥
-none_some p = subst is_some (sym p) tt
+none_some p = cc
 
 pub some_same : {X : Type 0} {x y : X} → ◌≡◌ {A = Option X} (Some x) (Some y) → x ≡ y
 some_same {x = x} p = ap (λ o. unwrap_or o x) p
 
-pub some_of : {X : Type 0} (o : Option X) → option_is_some o ≡ true → (x : X) × (o ≡ Some x)
+pub some_of : {X : Type 0} (o : Option X) → is_some o ≡ true → (x : X) × (o ≡ Some x)
 some_of (Some x) e = (x, refl)
 some_of None e = absurd (true≢false (sym e))
 
