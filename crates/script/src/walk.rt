@@ -42,7 +42,7 @@ fn check_send(scope: &Scope, place: u16, handle: u8, letter: u8, keys: Keys) -> 
 }
 
 // The keys at the end of the block of an answer, if that is declared.
-#[cycle(check_ask_check_block_check_branch_check_command_check_repeat)]
+#[cycle(blocks)]
 fn check_branch(
     scope: &Scope,
     depth: u8,
@@ -62,7 +62,7 @@ fn check_branch(
     Ok(Some(end))
 }
 
-#[cycle(check_ask_check_block_check_branch_check_command_check_repeat)]
+#[cycle(blocks)]
 fn check_ask(
     scope: &Scope,
     depth: u8,
@@ -99,7 +99,7 @@ fn check_ask(
     }
 }
 
-#[cycle(check_ask_check_block_check_branch_check_command_check_repeat)]
+#[cycle(blocks)]
 fn check_repeat(
     scope: &Scope,
     depth: u8,
@@ -119,7 +119,7 @@ fn check_repeat(
     }
 }
 
-#[cycle(check_ask_check_block_check_branch_check_command_check_repeat)]
+#[cycle(blocks)]
 fn check_command(
     scope: &Scope,
     depth: u8,
@@ -155,7 +155,7 @@ fn check_command(
 }
 
 // The keys at the end of a block, from those at its start.
-#[cycle(check_ask_check_block_check_branch_check_command_check_repeat)]
+#[cycle(blocks)]
 fn check_block(scope: &Scope, depth: u8, block: Block, start: Keys) -> Result<Keys, Fault>
     requires depth { depth ≤ 8 }
     requires within { Within (piece block) }

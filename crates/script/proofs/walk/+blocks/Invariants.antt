@@ -2,7 +2,7 @@ use Rattle.std.proofs.Common.{◌≡◌, ◌+◌, ◌-◌, ◌*◌, length}
 use Rattle.script.specs.Parts.{scope_of}
 use Rattle.script.specs.Pieces.{Within, piece}
 use Rattle.script.specs.Walk.{block_keys}
-use Rattle.script.proofs.walk.+check_ask_check_block_check_branch_check_command_check_repeat.Given as goal
+use Rattle.script.proofs.walk.+blocks.Given as goal
 
 abbrev pub decreases-check_block : goal.decreases-check_block
 decreases-check_block l = 4 * (8 - l.depth) + 3

@@ -15,7 +15,7 @@ use Rattle.script.specs.Walk.{BlocksWithin, block_keys, command_after}
 use Rattle.script.proofs.Walking.{at_end, unread, stops, goes_on, out_of_range, too_deep, settled, asks}
 use Rattle.script.proofs.Looking.{run_out_of_range, runs}
 use Rattle.script.proofs.Lying.{reads_inside}
-use Rattle.script.proofs.walk.+check_ask_check_block_check_branch_check_command_check_repeat.Goals as goal
+use Rattle.script.proofs.walk.+blocks.Goals as goal
 
 pub check_ask-check_branch-requires : goal.check_ask-check_branch-requires
 check_ask-check_branch-requires t c = (omega arith, (c.requires.depth, c.requires.within 0))
