@@ -6,7 +6,7 @@ ghost use Rattle.book.specs.Reading.{Draft as ReadingDraft, add_edge, add_retrea
 ghost use Rattle.book.specs.Shown.{Drafts, Gives, Shows, edges_of, free, retreats_of};
 
 use crate::automaton::{Automaton, Retreat};
-use faults::{BookCause, Fault};
+use faults::{BookCause, Fault, Layer};
 use protocol::{Edge, STATIONS};
 
 // A retreat, and the place of its command.

@@ -7,7 +7,7 @@ ghost use Rattle.book.specs.Shown.{Fits, Gives, Listed, Reads, Took, declare_fir
 use crate::automaton::Retreat;
 use crate::draft::Draft;
 use crate::tables::Tables;
-use faults::{BookCause, Fault, NOWHERE};
+use faults::{BookCause, Fault, Layer, NOWHERE};
 use protocol::Edge;
 
 // The bytes of the longest book.

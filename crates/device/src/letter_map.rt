@@ -3,7 +3,7 @@ ghost use Rattle.std.specs.Prelude.{◌≡◌};
 ghost use Rattle.protocol.specs.Lists.{all};
 ghost use Rattle.device.specs.LetterMap.{down, letter_or_none, map_from};
 
-use faults::{Fault, NOWHERE, StageCause};
+use faults::{Fault, Layer, NOWHERE, StageCause};
 use protocol::LETTERS;
 
 // What a map holds for a letter that has none below.

@@ -3,7 +3,9 @@
 
 mod causes;
 mod fault;
+mod layer;
 mod text;
 
 pub use causes::{BookCause, Cause, KeyCause, LayoutCause, StageCause};
 pub use fault::{Fault, NOWHERE};
+pub use layer::Layer;

@@ -6,14 +6,17 @@ ghost use Rattle.protocol.specs.Slots.{slot_of, table_in};
 use crate::edges::{ANSWERS, Edge, LETTERS, STATIONS};
 
 // By station, letter and answer, the station to which the edge leads.
-#[derive(Clone, Copy)]
+#[derive(Clone, Copy, Default)]
 pub struct EdgeTable {
     to: [Option<u8>; 1024],
 }
 
 fn slot(station: u8, letter: u8, answer: u8) -> usize
-    requires { (station < 16) × ((letter < 16) × (answer < 4)) }
-    ensures { (result ≡ slot_of station letter answer) × (result < 1024) }
+    requires station { station < 16 }
+    requires letter { letter < 16 }
+    requires answer { answer < 4 }
+    ensures value { result ≡ slot_of station letter answer }
+    ensures within { result < 1024 }
 {
     64 * station as usize + 4 * letter as usize + answer as usize
 }
@@ -40,10 +43,7 @@ impl EdgeTable {
     pub fn allowed(&self, station: u8, letter: u8) -> bool
         ensures { result ≡ allowed (table_in self.now) station letter }
     {
-        self.edge(station, letter, 0).is_some()
-            || self.edge(station, letter, 1).is_some()
-            || self.edge(station, letter, 2).is_some()
-            || self.edge(station, letter, 3).is_some()
+        (0..ANSWERS).any(|answer| self.edge(station, letter, answer).is_some())
     }
 
     // Takes in an edge that is in range and new; any other changes nothing.

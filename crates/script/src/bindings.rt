@@ -6,7 +6,7 @@ ghost use Rattle.script.specs.Bindings.{fits as fits_at, run_keys, suits as suit
 
 use crate::keys::{Keys, at, distinct, hand_over};
 use crate::part::Part;
-use faults::{Fault, KeyCause};
+use faults::{Fault, KeyCause, Layer};
 
 // A part has at most eight handles.
 const HANDLES: u8 = 8;

@@ -7,7 +7,7 @@ ghost use Rattle.script.specs.Pieces.{Within, piece};
 
 use crate::answers::ByAnswer;
 use crate::block::Block;
-use faults::{Fault, LayoutCause};
+use faults::{Fault, Layer, LayoutCause};
 
 #[derive(Clone, Copy)]
 pub enum Command<'a> {

@@ -8,7 +8,7 @@ use crate::command::word;
 use crate::part::Part;
 use crate::parts::MOST_PARTS;
 use book::Book;
-use faults::{Fault, LayoutCause};
+use faults::{Fault, Layer, LayoutCause};
 use protocol::STATIONS;
 
 // The bytes of a header: a mark, the count of handles, eight triples of kind, station in

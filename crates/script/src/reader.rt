@@ -12,7 +12,7 @@ use crate::parts::Parts;
 use crate::scope::Scope;
 use crate::walk::check_body;
 use book::Book;
-use faults::{Fault, KeyCause, LayoutCause, NOWHERE};
+use faults::{Fault, KeyCause, Layer, LayoutCause, NOWHERE};
 use protocol::AWAY;
 
 // The bytes of the longest script.

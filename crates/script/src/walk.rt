@@ -14,7 +14,7 @@ use crate::command::{Command, read_command};
 use crate::keys::{Keys, at, moved, same_keys};
 use crate::scope::Scope;
 use crate::successors::{agreed, join, some_declared, undeclared_empty};
-use faults::{Fault, KeyCause, LayoutCause};
+use faults::{Fault, KeyCause, Layer, LayoutCause};
 
 // A body stands at depth 1, a block one deeper than its command, and none deeper than this.
 const DEEPEST: u8 = 8;
