@@ -12,4 +12,4 @@ returns c x w =
     let len : length c.args.self.now.named ≡ 16 = search rules in
     let new : is_some (table_in t e.from e.letter e.answer) ≡ false = search rules in
     let after : (s l a : ℕ) → table_in c.declare.new.self s l a ≡ cond (leads e s l a) (Some e.to) (table_in t s l a) = search rules in
-    edge_gives c.args.self.now x c.declare.new.self e c.args.place w len ok new after
+    edge_gives c.args.self.now x c.declare.new.self e c.from.result c.from-2.result _ c.args.place w c.from.ensures c.from-2.ensures len ok new after

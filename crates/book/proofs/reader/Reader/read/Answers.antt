@@ -1,8 +1,7 @@
-use Rattle.std.proofs.Common.{◌≡◌, ◌<◌, ◌≤◌, length, rules}
+use Rattle.std.proofs.Common.{◌≡◌, ◌<◌, ◌≤◌, length, sym, ◌∙◌, rules}
 use Rattle.std.proofs.lemmas.Result.{err_from_is_err_and}
-use Rattle.book.proofs.Giving.{gives_exit}
-use Rattle.book.proofs.Books.{left_start, left_on, left_fails, end_passes, end_fails}
-use Rattle.book.proofs.reader.read.Goals as goal
+use Rattle.book.proofs.Books.{left_start, left_on, left_fails, ends, end_passes}
+use Rattle.book.proofs.reader.Reader.read.Goals as goal
 
 pub loop-rest-init : goal.loop-rest-init
 loop-rest-init c =
@@ -14,7 +13,7 @@ returns-in_err-rest c =
     let p = err_from_is_err_and c.from_residual.result c.from_residual.ensures.1 in
     let w = c.loop-rest.invariant in
     let some : 0 < length c.loop-rest.rest.now = search rules in
-    gives_exit _ _ _ _ _ p.1 p.2 (left_fails c.args.bytes.now c.loop-rest.reader c.loop-rest.rest.now w some c.declare.new.self _ (c.in_err-rest.ensures w.reading w.reads))
+    rw (p.1, p.2) (left_fails c.args.bytes.now c.loop-rest.reader c.loop-rest.rest.now w some _ (c.in_err-rest.ensures w.reading w.reads))
 
 pub loop-rest-preserved : goal.loop-rest-preserved
 loop-rest-preserved c =
@@ -27,10 +26,10 @@ returns-in_err-close c =
     let p = err_from_is_err_and c.from_residual-in_err-close.result c.from_residual-in_err-close.ensures.1 in
     let w = c.loop-rest.invariant in
     let none : length c.loop-rest.rest.now ≡ 0 = search rules in
-    gives_exit _ _ _ _ _ p.1 p.2 (end_fails c.args.bytes.now c.loop-rest.reader c.loop-rest.rest.now w none c.close.new.self _ (c.in_err-close.ensures w.reading w.reads))
+    rw (p.1, p.2) (sym (ends c.args.bytes.now c.loop-rest.reader c.loop-rest.rest.now w none) ∙ c.in_err-close.ensures w.reading w.reads)
 
 pub returns : goal.returns
 returns c =
     let w = c.loop-rest.invariant in
     let none : length c.loop-rest.rest.now ≡ 0 = search rules in
-    end_passes c.args.bytes.now c.loop-rest.reader c.loop-rest.rest.now w none c.close.new.self (c.in_ok-close.ensures w.reading w.reads)
+    end_passes c.args.bytes.now c.close.new.self _ (ends c.args.bytes.now c.loop-rest.reader c.loop-rest.rest.now w none) (c.in_ok-close.ensures w.reading w.reads)
