@@ -3,7 +3,11 @@ ghost use Rattle.std.specs.Prelude.{◌≡◌, ℕ, ◌+◌, ◌≤◌, not, ◌
 ghost use Rattle.book.specs.Automata.{IsEmpty, edges_of, retreat_count, retreats_of};
 ghost use Rattle.book.specs.Kinds.{falls, nearer, rank_of, retreat_in_range};
 
+use arrayvec::ArrayVec;
 use protocol::{ANSWERS, EdgeTable, LETTERS, STATIONS};
+
+// Ranks are 0 to 15.
+const RANKS: u8 = 16;
 
 // The letter that leads a station towards away, and a bound on how many letters it takes from there.
 #[derive(Clone, Copy, Default, PartialEq, Eq, Debug)]
@@ -19,7 +23,7 @@ impl Retreat {
     {
         (1..STATIONS).contains(&self.station)
             && self.letter < LETTERS
-            && (1..16).contains(&self.rank)
+            && (1..RANKS).contains(&self.rank)
     }
 }
 
@@ -29,6 +33,9 @@ pub struct Automaton {
     // by station
     pub retreats: [Option<Retreat>; 16],
 }
+
+// By the numbers of their kinds.
+pub type Automata = ArrayVec<Automaton, 8>;
 
 impl Default for Automaton {
     ghost is_default = { IsEmpty };

@@ -2,9 +2,8 @@
 ghost use Rattle.std.specs.Prelude.{◌<◌, length, OnSome};
 ghost use Rattle.std.proofs.Props.{props};
 
-use crate::automaton::{Automaton, Retreat};
+use crate::automaton::{Automata, Retreat};
 use crate::draft::Draft;
-use arrayvec::ArrayVec;
 use faults::{BookCause, Fault, NOWHERE};
 use protocol::Edge;
 
@@ -21,7 +20,7 @@ const RETREAT: u8 = 0x03;
 // The kinds that are closed, and the one that is being declared, for which there is room.
 #[derive(Drop)]
 pub struct Reader {
-    kinds: ArrayVec<Automaton, 8>,
+    kinds: Automata,
     draft: Option<Draft>,
     ghost room: { OnSome draft (length kinds.items < 8) } by { Prim.hlevel props },
 }
@@ -37,7 +36,7 @@ impl Reader {
         ensures { Reads result start }
     {
         Reader {
-            kinds: ArrayVec::new(),
+            kinds: Automata::new(),
             draft: None,
         }
     }
@@ -56,10 +55,10 @@ impl Reader {
         ensures { (x : Reading) → Reads self.old x → Gives (Took self.new 1 operands.now) result (declare x place (code_of KIND) (take 1 operands.now)) }
     {
         self.close()?;
-        let [number, rest @ ..] = operands else {
+        let &[number, ref rest @ ..] = operands else {
             return Err(BookCause::MissingOperands.at(place));
         };
-        if usize::from(*number) != self.kinds.len() || self.kinds.is_full() {
+        if usize::from(number) != self.kinds.len() || self.kinds.is_full() {
             return Err(BookCause::OutOfRange.at(place));
         }
         self.draft = Some(Draft::new(place));
@@ -69,14 +68,14 @@ impl Reader {
     fn edge<'a>(&mut self, place: u16, operands: &'a [u8]) -> Result<&'a [u8], Fault>
         ensures { (x : Reading) → Reads self.old x → Gives (Took self.new 4 operands.now) result (declare x place (code_of EDGE) (take 4 operands.now)) }
     {
-        let [from, letter, answer, to, rest @ ..] = operands else {
+        let &[from, letter, answer, to, ref rest @ ..] = operands else {
             return Err(BookCause::MissingOperands.at(place));
         };
         let edge = Edge {
-            from: *from,
-            letter: *letter,
-            answer: *answer,
-            to: *to,
+            from,
+            letter,
+            answer,
+            to,
         };
         let Some(draft) = &mut self.draft else {
             return Err(BookCause::OutOfRange.at(place));
@@ -88,13 +87,13 @@ impl Reader {
     fn retreat<'a>(&mut self, place: u16, operands: &'a [u8]) -> Result<&'a [u8], Fault>
         ensures { (x : Reading) → Reads self.old x → Gives (Took self.new 3 operands.now) result (declare x place (code_of RETREAT) (take 3 operands.now)) }
     {
-        let [station, letter, rank, rest @ ..] = operands else {
+        let &[station, letter, rank, ref rest @ ..] = operands else {
             return Err(BookCause::MissingOperands.at(place));
         };
         let retreat = Retreat {
-            station: *station,
-            letter: *letter,
-            rank: *rank,
+            station,
+            letter,
+            rank,
         };
         let Some(draft) = &mut self.draft else {
             return Err(BookCause::OutOfRange.at(place));
@@ -116,7 +115,7 @@ impl Reader {
     }
 
     // The automata of the kinds that the bytes declare, or the first fault.
-    pub(crate) fn read(bytes: &[u8]) -> Result<ArrayVec<Automaton, 8>, Fault>
+    pub(crate) fn read(bytes: &[u8]) -> Result<Automata, Fault>
         ensures { Gives (λ v ks. Listed v.items ks) result (read_book bytes.now) }
     {
         if bytes.len() > MOST_BYTES {

@@ -10,9 +10,8 @@ ghost use Rattle.book.specs.Home.{RetreatsLeadHome};
 ghost use Rattle.book.specs.Reading.{read_book, verdict};
 
 use super::Book;
-use crate::automaton::Automaton;
+use crate::automaton::{Automata, Automaton};
 use crate::reader::Reader;
-use arrayvec::ArrayVec;
 use faults::Fault;
 use protocol::AWAY;
 
@@ -23,7 +22,7 @@ impl<'a> Book<'a> {
     {
         Book {
             bytes: &[],
-            kinds: ArrayVec::new(),
+            kinds: Automata::new(),
         }
     }
 

@@ -1,16 +1,15 @@
 use Rattle.book.proofs.Home.{leads_home}
-use Rattle.book.proofs.Passed.{passed_declares}
-use Rattle.book.proofs.Passing.{declared_passes}
+use Rattle.book.proofs.Passing.{decides}
 use Rattle.book.proofs.book.Book.check.Goals as goal
 
 pub returns-in_err-kinds-clause-decides : goal.returns-in_err-kinds-clause-decides
-returns-in_err-kinds-clause-decides c = λ bs ks. (passed_declares bs ks, declared_passes bs ks)
+returns-in_err-kinds-clause-decides c = decides
 
 pub returns-in_err-kinds-clause-home : goal.returns-in_err-kinds-clause-home
 returns-in_err-kinds-clause-home c = leads_home
 
 pub returns-clause-decides : goal.returns-clause-decides
-returns-clause-decides c = λ bs ks. (passed_declares bs ks, declared_passes bs ks)
+returns-clause-decides c = decides
 
 pub returns-clause-home : goal.returns-clause-home
 returns-clause-home c = leads_home
