@@ -7,7 +7,3 @@ ok_and P x r e p = subst (λ v. IsOkAnd v P) (sym e) p
 pub of_ok_and : {X E : Type 0} (P : X → Type 0) (r : Result X E) → IsOkAnd r P → (x : X) × (r ≡ Ok x) × P x
 of_ok_and P (Ok x) p = (x, refl, p)
 of_ok_and P (Err e) p = absurd p
-
-pub ok_weaker : {X E : Type 0} (P Q : X → Type 0) → ((x : X) → P x → Q x) → (r : Result X E) → IsOkAnd r P → IsOkAnd r Q
-ok_weaker P Q f (Ok x) p = f x p
-ok_weaker P Q f (Err e) p = p

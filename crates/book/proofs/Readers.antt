@@ -30,46 +30,8 @@ drafting d o p is w = by p (subst (λ v. MatchOption v (IsNone p) (λ e. IsSomeA
 abbrev pub with_draft : (r : Reader) (d : code.Draft) → length r.kinds.items < 8 → Reader
 with_draft r d room = record { kinds = r.kinds; draft = Some d; room = room }
 
--- Edges and retreats
-
 enough : (n : ℕ) (os : List ℕ) → n ≤ length os → eqb (length (take n os)) n ≡ true
 enough n os le = let e : length (take n os) ≡ n = length-take n os ∙ omega (arith, le) in equal_numbers e
-
-module _ (r : Reader) (d d' : code.Draft) (x : Reading) (at : ℕ) (os : List ℕ) (room : length r.kinds.items < 8) (w : Reads r x) (is : r.draft ≡ Some d) where
-  drafted_on : (f : Draft → Result Draft Fault) → ((y : Draft) → Drafts d y → IsOkAnd (f y) (λ z. Drafts d' z)) →
-      (x' : Reading) × (in_draft x at f ≡ Ok x') × Reads (with_draft r d' room) x'
-  drafted_on f gives =
-      let y = drafting d r.draft x.draft is w.drafts in
-      let g = of_ok_and (λ z. Drafts d' z) (f y.0) (gives y.0 y.2) in (
-        record { kinds = x.kinds; draft = Some g.0 },
-        ap (λ (o : Option Draft). in_draft (record { kinds = x.kinds; draft = o }) at f) y.1 ∙ follows (λ z. Ok (record { kinds = x.kinds; draft = Some z })) g.1,
-        record { listed = w.listed; drafts = g.2 },
-      )
-
-  pub edge_reads : 4 ≤ length os → ((y : Draft) → Drafts d y → IsOkAnd (add_edge y at (edge_from os)) (λ z. Drafts d' z)) →
-      (x' : Reading) × (declare x at EDGE (take 4 os) ≡ Ok x') × Reads (with_draft r d' room) x'
-  edge_reads le gives =
-      let same : edge_from (take 4 os) ≡ edge_from os = λ i. record {
-        from = get_or-take 4 os 0 0 (lit< tt) i;
-        letter = get_or-take 4 os 1 0 (lit< tt) i;
-        answer = get_or-take 4 os 2 0 (lit< tt) i;
-        to = get_or-take 4 os 3 0 (lit< tt) i;
-      } in
-      let g = drafted_on (λ y. add_edge y at (edge_from os)) gives in
-      (g.0, met _ _ _ (enough 4 os le) ∙ ap (λ v. in_draft x at (λ y. add_edge y at v)) same ∙ g.1, g.2)
-
-  pub retreat_reads : 3 ≤ length os → ((y : Draft) → Drafts d y → IsOkAnd (add_retreat y at (retreat_from os)) (λ z. Drafts d' z)) →
-      (x' : Reading) × (declare x at RETREAT (take 3 os) ≡ Ok x') × Reads (with_draft r d' room) x'
-  retreat_reads le gives =
-      let same : retreat_from (take 3 os) ≡ retreat_from os = λ i. record {
-        station = get_or-take 3 os 0 0 (lit< tt) i;
-        letter = get_or-take 3 os 1 0 (lit< tt) i;
-        rank = get_or-take 3 os 2 0 (lit< tt) i;
-      } in
-      let g = drafted_on (λ y. add_retreat y at (retreat_from os)) gives in
-      (g.0, met _ _ _ (enough 3 os le) ∙ ap (λ v. in_draft x at (λ y. add_retreat y at v)) same ∙ g.1, g.2)
-
--- Kinds
 
 pub close_reads : (r : Reader) (d : code.Draft) (a : Automaton) (v : ArrayVec Automaton) (o : Option code.Draft) (room : OnSome o (length v.items < 8)) (x : Reading) →
     Reads r x → r.draft ≡ Some d → v.items ≡ r.kinds.items ++ (a ∷ []) → o ≡ None → ((y : Draft) → Drafts d y → IsOkAnd (close_draft y) (Shows a)) →
