@@ -23,21 +23,21 @@ named_homed h [] f = refl
 named_homed h (e ∷ es) f =
     and_true
     (and_true
-    (f e.from (or_left (eqb e.to e.from || names es e.from) (equal_numbers {m = e.from} refl)))
-    (f e.to (or_right (eqb e.from e.to) (or_left (names es e.to) (equal_numbers {m = e.to} refl)))))
-    (named_homed h es (λ s n. f s (or_right (eqb e.from s) (or_right (eqb e.to s) n))))
+    (f e.from (or_left (names es e.from) (or_left (eqb e.to e.from) (equal_numbers {m = e.from} refl))))
+    (f e.to (or_left (names es e.to) (or_right (eqb e.from e.to) (equal_numbers {m = e.to} refl)))))
+    (named_homed h es (λ s n. f s (or_right (eqb e.from s || eqb e.to s) n)))
 
 homed_named : (h : Retreats) (es : List Edge) (s : ℕ) → all (edge_homed h) es ≡ true → names es s ≡ true → homed h s ≡ true
 homed_named h [] s ok n = absurd (true≢false (sym n))
 homed_named h (e ∷ es) s ok n =
     let p = both (edge_homed h e) (all (edge_homed h) es) ok in
     let q = both (homed h e.from) (homed h e.to) p.0 in
-    elim (either (eqb e.from s) _ n) [
-      | inl i ↦ subst (λ v. homed h v ≡ true) (same_number e.from s i) q.0
-      | inr j ↦ elim (either (eqb e.to s) (names es s) j) [
-        | inl i ↦ subst (λ v. homed h v ≡ true) (same_number e.to s i) q.1
-        | inr k ↦ homed_named h es s p.1 k
+    elim (either (eqb e.from s || eqb e.to s) (names es s) n) [
+      | inl i ↦ elim (either (eqb e.from s) (eqb e.to s) i) [
+        | inl j ↦ subst (λ v. homed h v ≡ true) (same_number e.from s j) q.0
+        | inr j ↦ subst (λ v. homed h v ≡ true) (same_number e.to s j) q.1
       ]
+      | inr k ↦ homed_named h es s p.1 k
     ]
 
 module _ (d : code.Draft) (x : Draft) (w : Drafts d x) where

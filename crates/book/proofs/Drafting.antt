@@ -2,6 +2,9 @@
 use Rattle.std.proofs.Common.{◌≡◌, ℕ, ◌<◌, Bool, true, false, cond, not, ◌||◌, eqb, List, [], ◌∷◌, ◌++◌, length, get_or, set, is_some, Some, None, Option, IsOkAnd, sym, ap, ◌∙◌, refl, arith, length-set, get_or-set_other, get_or-set_same}
 use mathlib.Core.List.{map-append}
 use native.Mathlib.Decide.{ℕ_discrete}
+use Rattle.std.proofs.lemmas.Bool.Decides.{nat_tests}
+use Rattle.std.proofs.lemmas.Grind.{common_steps}
+use Rattle.std.proofs.lemmas.List.Folds.{list_any-append}
 use Rattle.arrayvec.specs.ArrayVec.{ArrayVec}
 use Rattle.faults.proofs.Results.{met}
 use Rattle.protocol.specs.declared.edges.Edge.{Edge}
@@ -29,36 +32,14 @@ is_none (Some x) e = cc
 -- Edges
 
 names_more : (es : List Edge) (e : Edge) (s : ℕ) → names (es ++ (e ∷ [])) s ≡ (eqb e.to s || (eqb e.from s || names es s))
-names_more [] e s = swap (eqb e.from s) (eqb e.to s)
+names_more es e s = list_any-append (λ x. eqb x.from s || eqb x.to s) es (e ∷ []) ∙ turn (names es s) (eqb e.from s) (eqb e.to s)
   where
-    swap : (a b : Bool) → (a || (b || false)) ≡ (b || (a || false))
-    swap true true = refl
-    swap true false = refl
-    swap false true = refl
-    swap false false = refl
-names_more (x ∷ es) e s =
-    ap (λ v. eqb x.from s || (eqb x.to s || v)) (names_more es e s)
-    ∙ turn (eqb x.from s) (eqb x.to s) (eqb e.to s) (eqb e.from s) (names es s)
-  where
-    turn : (a b c d v : Bool) → (a || (b || (c || (d || v)))) ≡ (c || (d || (a || (b || v))))
-    turn true true true d v = refl
-    turn true true false true v = refl
-    turn true true false false v = refl
-    turn true false true d v = refl
-    turn true false false true v = refl
-    turn true false false false v = refl
-    turn false true true d v = refl
-    turn false true false true v = refl
-    turn false true false false v = refl
-    turn false false c d v = refl
+    turn : (n f t : Bool) → (n || ((f || t) || false)) ≡ (t || (f || n))
+    turn n f t = grind arith
 
 -- a mark is set
 marked : (ns : List Bool) (i s : ℕ) → i < length ns → get_or (set ns i true) s false ≡ (eqb i s || get_or ns s false)
-marked ns i s lt = by (ℕ_discrete s i)
-  where
-    by : Dec (s ≡ i) → get_or (set ns i true) s false ≡ (eqb i s || get_or ns s false)
-    by (yes e) = ap (λ j. get_or (set ns i true) j false) e ∙ get_or-set_same ns i true false lt ∙ sym (ap (λ b. b || get_or ns s false) (equal_numbers (sym e)))
-    by (no ne) = get_or-set_other ns i s true false ne ∙ sym (ap (λ b. b || get_or ns s false) (other_numbers i s (λ e. ne (sym e))))
+marked ns i s lt = grind (arith, common_steps, nat_tests)
 
 module _ (d : code.Draft) (x : Draft) (t : EdgeTable) (e : Edge) (i j : ℕ) (placed : length d.retreats.items ≡ retreat_count d.automaton) where
   abbrev pub with_edge : code.Draft

@@ -18,11 +18,11 @@ zip_has (m ∷ ns) (r ∷ rs) len ok (suc s) n = zip_has ns rs (omega (arith, le
 has_zip : (ns : List Bool) (rs : List (Option Retreat)) → ((s : ℕ) → get_or ns s false ≡ true → is_some (get_or rs s None) ≡ true) → list_all has_one (zip ns rs) ≡ true
 has_zip [] rs f = refl
 has_zip (m ∷ ns) [] f = refl
-has_zip (m ∷ ns) (r ∷ rs) f = and_true (by m (f 0)) (has_zip ns rs (λ s n. f (suc s) n))
+has_zip (m ∷ ns) (r ∷ rs) f = and_true (marked m (f 0)) (has_zip ns rs (λ s n. f (suc s) n))
   where
-    by : (m : Bool) → (m ≡ true → is_some r ≡ true) → (not m || is_some r) ≡ true
-    by true h = h refl
-    by false h = refl
+    marked : (m : Bool) → (m ≡ true → is_some r ≡ true) → (not m || is_some r) ≡ true
+    marked true h = h refl
+    marked false h = refl
 
 -- away is the first, and needs none
 pub homed_behind : (ns : List Bool) (rs : List (Option Retreat)) → length ns ≡ length rs → list_all has_one (drop 1 (zip ns rs)) ≡ true →

@@ -1,6 +1,7 @@
 -- What the code's draft and reader stand for.
 use Rattle.std.specs.Prelude.{◌≡◌, ℕ, ◌≤◌, Bool, true, false, ◌||◌, List, [], ◌∷◌, length, take, drop, Err, Option, Result, IsNone, IsOkAnd, IsSomeAnd, MatchOption, MatchResult, ◌==◌, slice_index, slice_index_or}
 use Rattle.std.specs.Borrow.{Bor}
+use Rattle.std.specs.List.{list_any}
 use Rattle.faults.specs.declared.fault.Fault.{Fault}
 use Rattle.protocol.specs.declared.edges.Edge.{Edge}
 use Rattle.protocol.specs.Lists.{all}
@@ -20,8 +21,7 @@ Gives R a r = MatchResult a (λ y. IsOkAnd r (R y)) (λ e. r ≡ Err e)
 
 -- an edge begins or ends at the station
 abbrev pub names : List Edge → ℕ → Bool
-names [] s = false
-names (e ∷ es) s = e.from == s || (e.to == s || names es s)
+names es s = list_any (λ e. e.from == s || e.to == s) es
 
 -- each station that is named is away or has a retreat
 abbrev pub AllHomed : code.Draft → Type 0

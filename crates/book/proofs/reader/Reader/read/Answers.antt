@@ -15,4 +15,3 @@ loop-rest-preserved c =
     let w = c.loop-rest.invariant in
     let some : 0 < length c.loop-rest.rest.now = search rules in
     (left_on c.args.bytes.now c.loop-rest.reader c.loop-rest.rest.now w some c.declare.new.self c.in_ok-rest.rest (c.in_ok-rest.ensures w.reading w.reads)).0
-
