@@ -1,16 +1,12 @@
 -- A book, read to its end.
-use Rattle.std.proofs.Common.{◌≡◌, ℕ, zero, suc, ◌+◌, ◌-◌, ◌<◌, ◌≤◌, leb, List, [], ◌∷◌, length, take, drop, None, Err, Result, IsOkAnd, sym, refl, ap, ◌∙◌, subst, arith, length-drop, drop-drop, Bor}
-use Rattle.std.proofs.lemmas.Result.{MatchResult-weaker}
+use Rattle.std.proofs.Common.{◌≡◌, ℕ, zero, suc, ◌+◌, ◌-◌, ◌<◌, ◌≤◌, List, [], ◌∷◌, length, drop, Err, Result, IsOkAnd, sym, refl, ap, ◌∙◌, subst, arith, length-drop, Bor}
 use Rattle.faults.specs.declared.fault.Fault.{Fault}
 use Rattle.faults.specs.Results.{◌>>=◌}
-use Rattle.faults.proofs.Results.{met, follows}
-use Rattle.protocol.proofs.Tests.{is_at_most}
+use Rattle.faults.proofs.Results.{follows}
 use Rattle.book.specs.declared.reader.Reader.{Reader}
-use Rattle.book.specs.Automata.{Listed}
-use Rattle.book.specs.Kinds.{Kind}
-use Rattle.book.specs.Commands.{Code, code_of, width, commands}
-use Rattle.book.specs.Reading.{Reading, start, closed, declare, declare_all, read_book}
-use Rattle.book.specs.Shown.{Gives, Reads, Took, first_code, declare_first}
+use Rattle.book.specs.Commands.{code_of, width, commands}
+use Rattle.book.specs.Reading.{Reading, declare_all, read_book}
+use Rattle.book.specs.Shown.{Reads, Took, first_code, declare_first}
 use Rattle.book.proofs.Giving.{of_ok_and}
 
 -- What is left of a book decides it

@@ -1,7 +1,6 @@
 -- The tables of the kind that is being declared, with one command more.
-use Rattle.std.proofs.Common.{◌≡◌, ℕ, ◌<◌, Bool, true, false, cond, not, ◌||◌, eqb, List, [], ◌∷◌, ◌++◌, length, get_or, set, is_some, Some, None, Option, IsOkAnd, sym, ap, ◌∙◌, refl, arith, length-set, get_or-set_other, get_or-set_same}
+use Rattle.std.proofs.Common.{◌≡◌, ℕ, ◌<◌, Bool, true, false, cond, not, ◌||◌, eqb, List, [], ◌∷◌, ◌++◌, length, get_or, set, is_some, Some, None, Option, IsOkAnd, sym, ap, ◌∙◌, refl, arith, length-set}
 use mathlib.Core.List.{map-append}
-use native.Mathlib.Decide.{ℕ_discrete}
 use Rattle.std.proofs.lemmas.Bool.Decides.{nat_tests}
 use Rattle.std.proofs.lemmas.Grind.{common_steps}
 use Rattle.std.proofs.lemmas.List.Folds.{list_any-append}
@@ -11,7 +10,7 @@ use Rattle.protocol.specs.declared.edges.Edge.{Edge}
 use Rattle.protocol.specs.declared.table.EdgeTable.{EdgeTable}
 use Rattle.protocol.specs.Tables.{leads, table_of, edge_in_range}
 use Rattle.protocol.specs.Slots.{table_in}
-use Rattle.protocol.proofs.Tests.{equal_numbers, other_numbers, same_number}
+use Rattle.protocol.proofs.Tests.{same_number}
 use Rattle.protocol.proofs.Lists.{all_more}
 use Rattle.protocol.proofs.Firsts.{first_added, table_added}
 use Rattle.protocol.proofs.Ranges.{edge_ranged}

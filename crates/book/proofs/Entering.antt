@@ -1,5 +1,5 @@
 -- An edge or a retreat is added to a kind exactly where it is in range and new.
-use Rattle.std.proofs.Common.{◌≡◌, ℕ, true, not, ltb, List, [], ◌∷◌, ◌++◌, is_some, Ok, Result, sym, ap, ◌∙◌, subst, append_assoc, append-nil, arith}
+use Rattle.std.proofs.Common.{◌≡◌, ℕ, true, not, List, [], ◌∷◌, ◌++◌, is_some, Ok, Result, sym, ap, ◌∙◌, subst, append_assoc, append-nil, arith}
 use mathlib.Core.List.{map-append}
 use Rattle.std.proofs.lemmas.Bool.Decides.{nat_tests}
 use Rattle.faults.specs.declared.fault.Fault.{Fault}
@@ -10,7 +10,7 @@ use Rattle.faults.proofs.Results.{ok_same, bound, needed, met}
 use Rattle.protocol.specs.declared.edges.Edge.{Edge}
 use Rattle.protocol.specs.Lists.{Each, Apart}
 use Rattle.protocol.specs.Tables.{EdgeRanged, edge_in_range, table_of}
-use Rattle.protocol.proofs.Tests.{some_of, both, and_true, not_true, is_not, less, is_less}
+use Rattle.protocol.proofs.Tests.{some_of, not_true, is_not}
 use Rattle.protocol.proofs.Lists.{each_in, in_each, each_join, each_parts, apart_more, apart_before}
 use Rattle.protocol.proofs.Ranges.{edge_ranged, ranged_edge}
 use Rattle.book.specs.declared.automaton.Retreat.{Retreat}

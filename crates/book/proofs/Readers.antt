@@ -1,8 +1,7 @@
 -- A reader with one command more.
-use Rattle.std.proofs.Common.{◌≡◌, ℕ, ◌<◌, ◌≤◌, Bool, true, false, ◌&&◌, eqb, ltb, List, ◌∷◌, ◌++◌, [], length, get_or, take, Some, None, Ok, Err, Option, Result, IsOkAnd, IsSomeAnd, IsNone, MatchOption, OnSome, sym, refl, ap, ◌∙◌, subst, arith, lit<, length-take, get_or-take}
+use Rattle.std.proofs.Common.{◌≡◌, ℕ, ◌<◌, ◌≤◌, Bool, true, false, ◌&&◌, eqb, ltb, List, ◌∷◌, ◌++◌, [], length, get_or, take, Some, None, Ok, Err, Option, IsOkAnd, IsSomeAnd, IsNone, MatchOption, OnSome, sym, refl, ap, ◌∙◌, subst, arith, lit<, length-take, get_or-take}
 use Rattle.std.proofs.lemmas.Slice.Zip.{all_zipped_more, AllZip-long}
 use Rattle.arrayvec.specs.ArrayVec.{ArrayVec}
-use Rattle.faults.specs.declared.fault.Fault.{Fault}
 use Rattle.faults.specs.declared.causes.BookCause.TheVariants.{OutOfRange}
 use Rattle.faults.specs.Numbers.{book_fault}
 use Rattle.faults.specs.Results.{need, ◌>>=◌}
@@ -13,8 +12,8 @@ use Rattle.book.specs.declared.draft.Draft as code
 use Rattle.book.specs.declared.reader.Reader.{Reader}
 use Rattle.book.specs.Automata.{Shows}
 use Rattle.book.specs.Kinds.{Kind}
-use Rattle.book.specs.Commands.{KIND, EDGE, RETREAT, edge_from, retreat_from}
-use Rattle.book.specs.Reading.{Draft, Reading, close_draft, closed, add_edge, add_retreat, in_draft, open_kind, declare}
+use Rattle.book.specs.Commands.{KIND}
+use Rattle.book.specs.Reading.{Draft, Reading, close_draft, closed, open_kind, declare}
 use Rattle.book.specs.Shown.{Drafts, Reads}
 use Rattle.book.proofs.Giving.{ok_and, of_ok_and}
 

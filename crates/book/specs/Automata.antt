@@ -1,5 +1,5 @@
 -- The automata of the code, and the kinds that they show.
-use Rattle.std.specs.Prelude.{◌≡◌, ℕ, List, [], ◌∷◌, count_by, is_some, slice_index_or, None, ⊤}
+use Rattle.std.specs.Prelude.{◌≡◌, ℕ, List, [], ◌∷◌, count_by, is_some, slice_index_or, None}
 use Rattle.std.specs.List.{AllZip}
 use Rattle.std.specs.Coded.{×_prop, Unit-prop}
 use Rattle.protocol.specs.Tables.{Table, table_of}

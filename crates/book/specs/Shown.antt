@@ -1,5 +1,5 @@
 -- What the code's draft and reader stand for.
-use Rattle.std.specs.Prelude.{◌≡◌, ℕ, ◌≤◌, Bool, true, false, ◌||◌, List, [], ◌∷◌, length, take, drop, Err, Option, Result, IsNone, IsOkAnd, IsSomeAnd, MatchOption, MatchResult, ◌==◌, slice_index, slice_index_or}
+use Rattle.std.specs.Prelude.{◌≡◌, ℕ, ◌≤◌, Bool, true, false, ◌||◌, List, length, take, drop, Err, Result, IsNone, IsOkAnd, IsSomeAnd, MatchOption, MatchResult, ◌==◌, slice_index, slice_index_or}
 use Rattle.std.specs.Borrow.{Bor}
 use Rattle.std.specs.List.{list_any}
 use Rattle.faults.specs.declared.fault.Fault.{Fault}

@@ -77,10 +77,10 @@ impl Reader {
             answer,
             to,
         };
-        let Some(draft) = &mut self.draft else {
-            return Err(BookCause::OutOfRange.at(place));
-        };
-        draft.add_edge(place, edge)?;
+        self.draft
+            .as_mut()
+            .ok_or(BookCause::OutOfRange.at(place))?
+            .add_edge(place, edge)?;
         Ok(rest)
     }
 
@@ -95,10 +95,10 @@ impl Reader {
             letter,
             rank,
         };
-        let Some(draft) = &mut self.draft else {
-            return Err(BookCause::OutOfRange.at(place));
-        };
-        draft.add_retreat(place, retreat)?;
+        self.draft
+            .as_mut()
+            .ok_or(BookCause::OutOfRange.at(place))?
+            .add_retreat(place, retreat)?;
         Ok(rest)
     }
 

@@ -1,4 +1,4 @@
-use Rattle.std.proofs.Common.{Err, Ok, sym, ap, ◌∙◌, true≢false}
+use Rattle.std.proofs.Common.{Err, sym, ap, ◌∙◌, true≢false}
 use Rattle.std.proofs.lemmas.Result.{err_from_is_err_and}
 use Rattle.faults.specs.declared.fault.Fault.{Fault}
 use Rattle.book.proofs.Closed.{close_homeless, close_tried, close_passes}
