@@ -24,9 +24,9 @@ use Rattle.book.specs.Reading.{Draft, unplaced, edge_added, retreat_added, add_e
 use Rattle.book.specs.Shown.{Drafts, names}
 use Rattle.book.proofs.Giving.{ok_and}
 
-is_none : {X : Type 0} (o : Option X) → is_some o ≡ false → o ≡ None
-is_none None e = refl
-is_none (Some x) e = cc
+none_of : {X : Type 0} (o : Option X) → not (is_some o) ≡ true → o ≡ None
+none_of None e = refl
+none_of (Some x) e = cc
 
 -- Edges
 
@@ -76,12 +76,12 @@ module _ (d : code.Draft) (x : Draft) (t : EdgeTable) (e : Edge) (i j : ℕ) (pl
 
   -- so an edge that is in range and new is added
   pub edge_gives : (place : ℕ) → Drafts d x → i ≡ e.from → j ≡ e.to → length d.named ≡ 16 → edge_in_range e ≡ true →
-      is_some (table_in d.automaton.edges e.from e.letter e.answer) ≡ false →
+      not (is_some (table_in d.automaton.edges e.from e.letter e.answer)) ≡ true →
       ((s l a : ℕ) → table_in t s l a ≡ cond (leads e s l a) (Some e.to) (table_in d.automaton.edges s l a)) →
       IsOkAnd (add_edge x place e) (λ y. Drafts with_edge y)
   edge_gives place w from to len ok vacant after =
       let old = w.shows.edges e.from e.letter e.answer in
-      let new : table_of x.edges e.from e.letter e.answer ≡ None = sym old ∙ is_none _ vacant in
+      let new : table_of x.edges e.from e.letter e.answer ≡ None = sym old ∙ none_of _ vacant in
       ok_and _ (edge_added x e) (add_edge x place e)
       (met _ _ _ ok ∙ met _ _ _ (ap (λ (o : Option ℕ). not (is_some o)) new))
       (edge_drafts w from to len ok new after)
@@ -93,14 +93,14 @@ module _ (d : code.Draft) (x : Draft) (a : Automaton) (place : ℕ) (r : Retreat
   with_retreat = record { place = d.place; automaton = a; named = d.named; retreats = v; placed = placed }
 
   pub retreat_gives : Drafts d x → retreat_in_range r ≡ true →
-      is_some (retreats_of d.automaton r.station) ≡ false →
+      not (is_some (retreats_of d.automaton r.station)) ≡ true →
       a.edges ≡ d.automaton.edges →
       ((s : ℕ) → retreats_of a s ≡ cond (eqb r.station s) (Some r) (retreats_of d.automaton s)) →
       v.items ≡ d.retreats.items ++ (record { place = place; retreat = r } ∷ []) →
       IsOkAnd (add_retreat x place r) (λ y. Drafts with_retreat y)
   retreat_gives w ok vacant same after pushed =
       let p : Placed = record { place = place; retreat = r } in
-      let new : retreat_of (unplaced x.retreats) r.station ≡ None = sym (w.shows.retreats r.station) ∙ is_none _ vacant in
+      let new : retreat_of (unplaced x.retreats) r.station ≡ None = sym (w.shows.retreats r.station) ∙ none_of _ vacant in
       ok_and _ (retreat_added x place r) (add_retreat x place r)
       (met _ _ _ ok ∙ met _ _ _ (ap (λ (o : Option Retreat). not (is_some o)) new))
       (record {

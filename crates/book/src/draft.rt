@@ -19,7 +19,7 @@ pub struct Draft {
     // of its KIND
     place: u16,
     automaton: Automaton,
-    // by station, whether an edge begins or ends there
+    // by station, whether an edge begins or ends there: no part of the automaton, which outlives the draft
     named: [bool; 16],
     // in the order in which they came
     retreats: ArrayVec<Placed, 16>,

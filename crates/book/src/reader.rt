@@ -84,6 +84,7 @@ impl Reader {
         Ok(rest)
     }
 
+    // Beside edge, since the operands of a command are a pattern, and no function takes one.
     fn retreat<'a>(&mut self, place: u16, operands: &'a [u8]) -> Result<&'a [u8], Fault>
         ensures { (x : Reading) → Reads self.old x → Gives (Took self.new 3 operands.now) result (declare x place (code_of RETREAT) (take 3 operands.now)) }
     {
