@@ -11,7 +11,6 @@ use Rattle.protocol.specs.declared.table.EdgeTable.{EdgeTable}
 use Rattle.protocol.specs.Tables.{leads, table_of, edge_in_range}
 use Rattle.protocol.specs.Slots.{table_in}
 use Rattle.protocol.proofs.Tests.{same_number}
-use Rattle.protocol.proofs.Lists.{all_more}
 use Rattle.protocol.proofs.Firsts.{first_added, table_added}
 use Rattle.protocol.proofs.Ranges.{edge_ranged}
 use Rattle.book.specs.declared.automaton.Retreat.{Retreat}
@@ -65,7 +64,6 @@ module _ (d : code.Draft) (x : Draft) (t : EdgeTable) (e : Edge) (i j : ℕ) (pl
               ∙ sym (table_added x.edges e new s l a);
           retreats = w.shows.retreats;
         };
-        ranged = all_more edge_in_range x.edges e w.ranged ok;
         named = λ s.
             marked (set d.named i true) j s (omega (arith, length-set d.named i true, to, r.3))
             ∙ ap (λ v. eqb j s || v) (marked d.named i s (omega (arith, from, r.0)))
@@ -113,7 +111,6 @@ module _ (d : code.Draft) (x : Draft) (a : Automaton) (place : ℕ) (r : Retreat
               ∙ sym (first_added (λ (q : Retreat). eqb q.station s) (λ (q : Retreat). q) (unplaced x.retreats) r (λ e. ap (λ u. retreat_of (unplaced x.retreats) u) (sym (same_number r.station s e)) ∙ new))
               ∙ ap (λ rs. retreat_of rs s) (sym (map-append (λ (q : Placed). q.retreat) x.retreats (p ∷ [])));
         };
-        ranged = w.ranged;
         named = w.named;
         listed = pushed ∙ ap (λ ps. ps ++ (p ∷ [])) w.listed;
       })

@@ -1,7 +1,8 @@
 -- A reader with one command more.
-use Rattle.std.proofs.Common.{◌≡◌, ℕ, ◌<◌, ◌≤◌, Bool, true, false, ◌&&◌, eqb, ltb, List, ◌∷◌, ◌++◌, [], length, get_or, take, Some, None, Ok, Err, Option, IsOkAnd, IsSomeAnd, IsNone, MatchOption, OnSome, sym, refl, ap, ◌∙◌, subst, arith, lit<, length-take, get_or-take}
+use Rattle.std.proofs.Common.{◌≡◌, ℕ, ◌<◌, ◌≤◌, Bool, true, false, ◌&&◌, eqb, ltb, List, ◌∷◌, ◌++◌, [], length, get_or, take, Some, None, Ok, Err, Option, Result, IsOkAnd, IsSomeAnd, IsNone, MatchOption, OnSome, sym, refl, ap, ◌∙◌, subst, arith, lit<, length-take, get_or-take}
 use Rattle.std.proofs.lemmas.Slice.Zip.{all_zipped_more, AllZip-long}
 use Rattle.arrayvec.specs.ArrayVec.{ArrayVec}
+use Rattle.faults.specs.declared.fault.Fault.{Fault}
 use Rattle.faults.specs.declared.causes.BookCause.TheVariants.{OutOfRange}
 use Rattle.faults.specs.Numbers.{book_fault}
 use Rattle.faults.specs.Results.{need, ◌>>=◌}
@@ -44,6 +45,12 @@ close_reads r d a v o room x w is pushed none gives =
       listed = rw pushed (all_zipped_more Shows r.kinds.items x.kinds a g.0 w.listed g.2);
       drafts = subst (λ p. MatchOption p (IsNone {T = Draft} None) (λ e. IsSomeAnd None (Drafts e))) (sym none) refl;
     })
+
+pub close_fails : (r : Reader) (d : code.Draft) (x : Reading) (e : Fault) → Reads r x → r.draft ≡ Some d → ((y : Draft) → Drafts d y → close_draft y ≡ Err e) → closed x ≡ Err e
+close_fails r d x e w is gives =
+    let y = drafting d r.draft x.draft is w.drafts in
+    ap (λ (p : Option Draft). closed (record { kinds = x.kinds; draft = p })) y.1
+    ∙ ap (λ (v : Result Kind Fault). v >>= (λ k. Ok (x.kinds ++ (k ∷ [])))) (gives y.0 y.2)
 
 module _ (r : Reader) (x : Reading) (at : ℕ) (os : List ℕ) (gives : IsOkAnd (closed x) (λ ks. Reads r (record { kinds = ks; draft = None }))) (le : 1 ≤ length os) where
   abbrev is_next : List Kind → Bool

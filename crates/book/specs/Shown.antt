@@ -4,8 +4,6 @@ use Rattle.std.specs.Borrow.{Bor}
 use Rattle.std.specs.List.{list_any}
 use Rattle.faults.specs.declared.fault.Fault.{Fault}
 use Rattle.protocol.specs.declared.edges.Edge.{Edge}
-use Rattle.protocol.specs.Lists.{all}
-use Rattle.protocol.specs.Tables.{edge_in_range}
 use Rattle.book.specs.declared.draft.Draft as code
 use Rattle.book.specs.declared.reader.Reader.{Reader}
 use Rattle.book.specs.Automata.{retreats_of, Shows, Listed}
@@ -30,7 +28,6 @@ AllHomed d = (s : ℕ) → slice_index_or d.named s false ≡ true → homed (re
 pub record Drafts (d : code.Draft) (x : Draft) : Type 0 where
   pub place : d.place ≡ x.place
   pub shows : Shows d.automaton (drafted x)
-  pub ranged : all edge_in_range x.edges ≡ true
   pub named : (s : ℕ) → slice_index_or d.named s false ≡ names x.edges s
   pub listed : d.retreats.items ≡ x.retreats
 
