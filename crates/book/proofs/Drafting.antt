@@ -1,150 +1,116 @@
 -- The tables of the kind that is being declared, with one command more.
-use Rattle.std.proofs.Common.{◌≡◌, ℕ, ◌+◌, ◌<◌, Bool, true, false, cond, not, ◌||◌, eqb, List, [], ◌∷◌, ◌++◌, length, get_or, set, is_some, Some, None, Ok, Option, sym, refl, ap, ◌∙◌, arith, length-set, get_or-set_other, get_or-set_same}
+use Rattle.std.proofs.Common.{◌≡◌, ℕ, ◌<◌, Bool, true, false, cond, not, ◌||◌, eqb, List, [], ◌∷◌, ◌++◌, length, get_or, set, is_some, Some, None, Option, IsOkAnd, sym, ap, ◌∙◌, refl, arith, length-set}
 use mathlib.Core.List.{map-append}
-use native.Mathlib.Decide.{ℕ_discrete}
-use Rattle.std.proofs.lemmas.List.{take_more_set}
+use Rattle.std.proofs.lemmas.Bool.Decides.{nat_tests}
+use Rattle.std.proofs.lemmas.Grind.{common_steps}
+use Rattle.std.proofs.lemmas.List.Folds.{list_any-append}
+use Rattle.arrayvec.specs.ArrayVec.{ArrayVec}
 use Rattle.faults.proofs.Results.{met}
 use Rattle.protocol.specs.declared.edges.Edge.{Edge}
 use Rattle.protocol.specs.declared.table.EdgeTable.{EdgeTable}
 use Rattle.protocol.specs.Tables.{leads, table_of, edge_in_range}
 use Rattle.protocol.specs.Slots.{table_in}
-use Rattle.protocol.proofs.Tests.{equal_numbers, other_numbers, same_number}
-use Rattle.protocol.proofs.Lists.{all_more}
+use Rattle.protocol.proofs.Tests.{same_number}
 use Rattle.protocol.proofs.Firsts.{first_added, table_added}
 use Rattle.protocol.proofs.Ranges.{edge_ranged}
 use Rattle.book.specs.declared.automaton.Retreat.{Retreat}
 use Rattle.book.specs.declared.automaton.Automaton.{Automaton}
 use Rattle.book.specs.declared.draft.Placed.{Placed}
 use Rattle.book.specs.declared.draft.Draft as code
+use Rattle.book.specs.Automata.{retreats_of, retreat_count}
 use Rattle.book.specs.Kinds.{retreat_of, retreat_in_range}
 use Rattle.book.specs.Reading.{Draft, unplaced, edge_added, retreat_added, add_edge, add_retreat}
-use Rattle.book.specs.Shown.{Drafts, Gives, names, retreats_of, free}
-use Rattle.book.proofs.Free.{is_none, free_added}
-use Rattle.book.proofs.Giving.{gives_ok}
+use Rattle.book.specs.Shown.{Drafts, names}
+use Rattle.book.proofs.Giving.{ok_and}
+
+none_of : {X : Type 0} (o : Option X) → not (is_some o) ≡ true → o ≡ None
+none_of None e = refl
+none_of (Some x) e = cc
 
 -- Edges
 
 names_more : (es : List Edge) (e : Edge) (s : ℕ) → names (es ++ (e ∷ [])) s ≡ (eqb e.to s || (eqb e.from s || names es s))
-names_more [] e s = swap (eqb e.from s) (eqb e.to s)
+names_more es e s = list_any-append (λ x. eqb x.from s || eqb x.to s) es (e ∷ []) ∙ turn (names es s) (eqb e.from s) (eqb e.to s)
   where
-    swap : (a b : Bool) → (a || (b || false)) ≡ (b || (a || false))
-    swap true true = refl
-    swap true false = refl
-    swap false true = refl
-    swap false false = refl
-names_more (x ∷ es) e s =
-    ap (λ v. eqb x.from s || (eqb x.to s || v)) (names_more es e s)
-    ∙ turn (eqb x.from s) (eqb x.to s) (eqb e.to s) (eqb e.from s) (names es s)
-  where
-    turn : (a b c d v : Bool) → (a || (b || (c || (d || v)))) ≡ (c || (d || (a || (b || v))))
-    turn true true true d v = refl
-    turn true true false true v = refl
-    turn true true false false v = refl
-    turn true false true d v = refl
-    turn true false false true v = refl
-    turn true false false false v = refl
-    turn false true true d v = refl
-    turn false true false true v = refl
-    turn false true false false v = refl
-    turn false false c d v = refl
+    turn : (n f t : Bool) → (n || ((f || t) || false)) ≡ (t || (f || n))
+    turn n f t = grind arith
 
 -- a mark is set
 marked : (ns : List Bool) (i s : ℕ) → i < length ns → get_or (set ns i true) s false ≡ (eqb i s || get_or ns s false)
-marked ns i s lt = by (ℕ_discrete s i)
-  where
-    by : Dec (s ≡ i) → get_or (set ns i true) s false ≡ (eqb i s || get_or ns s false)
-    by (yes e) = ap (λ j. get_or (set ns i true) j false) e ∙ get_or-set_same ns i true false lt ∙ sym (ap (λ b. b || get_or ns s false) (equal_numbers (sym e)))
-    by (no ne) = get_or-set_other ns i s true false ne ∙ sym (ap (λ b. b || get_or ns s false) (other_numbers i s (λ e. ne (sym e))))
+marked ns i s lt = grind (arith, common_steps, nat_tests)
 
-abbrev pub with_edge : code.Draft → EdgeTable → Edge → code.Draft
-with_edge d t e = record {
-  place = d.place;
-  automaton = record { edges = t; retreats = d.automaton.retreats };
-  named = set (set d.named e.from true) e.to true;
-  retreats = d.retreats;
-  count = d.count;
-}
+module _ (d : code.Draft) (x : Draft) (t : EdgeTable) (e : Edge) (i j : ℕ) (placed : length d.retreats.items ≡ retreat_count d.automaton) where
+  abbrev pub with_edge : code.Draft
+  with_edge = record {
+    place = d.place;
+    automaton = record { edges = t; retreats = d.automaton.retreats };
+    named = set (set d.named i true) j true;
+    retreats = d.retreats;
+    placed = placed;
+  }
 
-pub edge_drafts : (d : code.Draft) (x : Draft) (t : EdgeTable) (e : Edge) → Drafts d x → length d.named ≡ 16 → edge_in_range e ≡ true →
-    table_of x.edges e.from e.letter e.answer ≡ None →
-    ((s l a : ℕ) → table_in t s l a ≡ cond (leads e s l a) (Some e.to) (table_in d.automaton.edges s l a)) →
-    Drafts (with_edge d t e) (edge_added x e)
-edge_drafts d x t e w len ok new after =
-    let r = edge_ranged e ok in
-    record {
-      place = w.place;
-      shows = record {
-        edges = λ s l a.
-            after s l a
-            ∙ ap (λ (o : Option ℕ). cond (leads e s l a) (Some e.to) o) (w.shows.edges s l a)
-            ∙ sym (table_added x.edges e new s l a);
-        retreats = w.shows.retreats;
-      };
-      ranged = all_more edge_in_range x.edges e w.ranged ok;
-      named = λ s lt.
-          marked (set d.named e.from true) e.to s (omega (arith, length-set d.named e.from true, r.3))
-          ∙ ap (λ v. eqb e.to s || v) (marked d.named e.from s (omega (arith, r.0)))
-          ∙ ap (λ v. eqb e.to s || (eqb e.from s || v)) (w.named s lt)
-          ∙ sym (names_more x.edges e s);
-      listed = w.listed;
-      counted = w.counted;
-    }
+  edge_drafts : Drafts d x → i ≡ e.from → j ≡ e.to → length d.named ≡ 16 → edge_in_range e ≡ true →
+      table_of x.edges e.from e.letter e.answer ≡ None →
+      ((s l a : ℕ) → table_in t s l a ≡ cond (leads e s l a) (Some e.to) (table_in d.automaton.edges s l a)) →
+      Drafts with_edge (edge_added x e)
+  edge_drafts w from to len ok new after =
+      let r = edge_ranged e ok in
+      record {
+        place = w.place;
+        shows = record {
+          edges = λ s l a.
+              after s l a
+              ∙ ap (λ (o : Option ℕ). cond (leads e s l a) (Some e.to) o) (w.shows.edges s l a)
+              ∙ sym (table_added x.edges e new s l a);
+          retreats = w.shows.retreats;
+        };
+        named = λ s.
+            marked (set d.named i true) j s (omega (arith, length-set d.named i true, to, r.3))
+            ∙ ap (λ v. eqb j s || v) (marked d.named i s (omega (arith, from, r.0)))
+            ∙ (λ k. eqb (to k) s || (eqb (from k) s || w.named s k))
+            ∙ sym (names_more x.edges e s);
+        listed = w.listed;
+      }
 
--- so an edge that is in range and new is added
-pub edge_gives : (d : code.Draft) (x : Draft) (t : EdgeTable) (e : Edge) (place : ℕ) → Drafts d x → length d.named ≡ 16 → edge_in_range e ≡ true →
-    is_some (table_in d.automaton.edges e.from e.letter e.answer) ≡ false →
-    ((s l a : ℕ) → table_in t s l a ≡ cond (leads e s l a) (Some e.to) (table_in d.automaton.edges s l a)) →
-    Gives {Y = Unit {0}} (λ _ y. Drafts (with_edge d t e) y) (Ok tt) (add_edge x place e)
-edge_gives d x t e place w len ok vacant after =
-    let old = w.shows.edges e.from e.letter e.answer in
-    let new : table_of x.edges e.from e.letter e.answer ≡ None = sym old ∙ is_none _ vacant in
-    let passed : add_edge x place e ≡ Ok (edge_added x e) = met _ _ _ ok ∙ met _ _ _ (ap (λ (o : Option ℕ). not (is_some o)) new) in
-    gives_ok {Y = Unit {0}} (λ _ y. Drafts (with_edge d t e) y) tt (edge_added x e) (add_edge x place e) passed (edge_drafts d x t e w len ok new after)
+  -- so an edge that is in range and new is added
+  pub edge_gives : (place : ℕ) → Drafts d x → i ≡ e.from → j ≡ e.to → length d.named ≡ 16 → edge_in_range e ≡ true →
+      not (is_some (table_in d.automaton.edges e.from e.letter e.answer)) ≡ true →
+      ((s l a : ℕ) → table_in t s l a ≡ cond (leads e s l a) (Some e.to) (table_in d.automaton.edges s l a)) →
+      IsOkAnd (add_edge x place e) (λ y. Drafts with_edge y)
+  edge_gives place w from to len ok vacant after =
+      let old = w.shows.edges e.from e.letter e.answer in
+      let new : table_of x.edges e.from e.letter e.answer ≡ None = sym old ∙ none_of _ vacant in
+      ok_and _ (edge_added x e) (add_edge x place e)
+      (met _ _ _ ok ∙ met _ _ _ (ap (λ (o : Option ℕ). not (is_some o)) new))
+      (edge_drafts w from to len ok new after)
 
 -- Retreats
 
-abbrev pub with_retreat : code.Draft → Automaton → ℕ → Retreat → code.Draft
-with_retreat d a place r = record {
-  place = d.place;
-  automaton = a;
-  named = d.named;
-  retreats = set d.retreats d.count (record { place = place; retreat = r });
-  count = d.count + 1;
-}
+module _ (d : code.Draft) (x : Draft) (a : Automaton) (place : ℕ) (r : Retreat) (v : ArrayVec Placed) (placed : length v.items ≡ retreat_count a) where
+  abbrev pub with_retreat : code.Draft
+  with_retreat = record { place = d.place; automaton = a; named = d.named; retreats = v; placed = placed }
 
-pub retreat_drafts : (d : code.Draft) (x : Draft) (a : Automaton) (place : ℕ) (r : Retreat) → Drafts d x → d.count < length d.retreats →
-    retreat_of (unplaced x.retreats) r.station ≡ None →
-    a.edges ≡ d.automaton.edges →
-    ((s : ℕ) → retreats_of a s ≡ cond (eqb r.station s) (Some r) (retreats_of d.automaton s)) →
-    free a.retreats + 1 ≡ free d.automaton.retreats →
-    Drafts (with_retreat d a place r) (retreat_added x place r)
-retreat_drafts d x a place r w lt new same after freed =
-    let p : Placed = record { place = place; retreat = r } in
-    record {
-      place = w.place;
-      shows = record {
-        edges = λ s l n. ap (λ t. table_in t s l n) same ∙ w.shows.edges s l n;
-        retreats = λ s.
-            after s
-            ∙ ap (λ (o : Option Retreat). cond (eqb r.station s) (Some r) o) (w.shows.retreats s)
-            ∙ sym (first_added (λ (q : Retreat). eqb q.station s) (λ (q : Retreat). q) (unplaced x.retreats) r (λ e. ap (λ v. retreat_of (unplaced x.retreats) v) (sym (same_number r.station s e)) ∙ new))
-            ∙ ap (λ rs. retreat_of rs s) (sym (map-append (λ (q : Placed). q.retreat) x.retreats (p ∷ [])));
-      };
-      ranged = w.ranged;
-      named = w.named;
-      listed = take_more_set d.retreats d.count p lt ∙ ap (λ ps. ps ++ (p ∷ [])) w.listed;
-      counted = omega (arith, w.counted, freed);
-    }
-
-pub retreat_gives : (d : code.Draft) (x : Draft) (a : Automaton) (place : ℕ) (r : Retreat) → Drafts d x → length d.retreats ≡ 16 → retreat_in_range r ≡ true →
-    is_some (retreats_of d.automaton r.station) ≡ false →
-    a.edges ≡ d.automaton.edges →
-    ((s : ℕ) → retreats_of a s ≡ cond (eqb r.station s) (Some r) (retreats_of d.automaton s)) →
-    length d.automaton.retreats ≡ 16 → a.retreats ≡ set d.automaton.retreats r.station (Some r) →
-    Gives {Y = Unit {0}} (λ _ y. Drafts (with_retreat d a place r) y) (Ok tt) (add_retreat x place r)
-retreat_gives d x a place r w len ok vacant same after whole places =
-    let freed : free a.retreats + 1 ≡ free d.automaton.retreats = ap (λ l. free l + 1) places ∙ free_added d.automaton r ok whole vacant in
-    let new : retreat_of (unplaced x.retreats) r.station ≡ None = sym (w.shows.retreats r.station) ∙ is_none _ vacant in
-    let passed : add_retreat x place r ≡ Ok (retreat_added x place r) = met _ _ _ ok ∙ met _ _ _ (ap (λ (o : Option Retreat). not (is_some o)) new) in
-    gives_ok {Y = Unit {0}} (λ _ y. Drafts (with_retreat d a place r) y) tt (retreat_added x place r) (add_retreat x place r) passed
-    (retreat_drafts d x a place r w (omega (arith, w.counted, freed)) new same after freed)
+  pub retreat_gives : Drafts d x → retreat_in_range r ≡ true →
+      not (is_some (retreats_of d.automaton r.station)) ≡ true →
+      a.edges ≡ d.automaton.edges →
+      ((s : ℕ) → retreats_of a s ≡ cond (eqb r.station s) (Some r) (retreats_of d.automaton s)) →
+      v.items ≡ d.retreats.items ++ (record { place = place; retreat = r } ∷ []) →
+      IsOkAnd (add_retreat x place r) (λ y. Drafts with_retreat y)
+  retreat_gives w ok vacant same after pushed =
+      let p : Placed = record { place = place; retreat = r } in
+      let new : retreat_of (unplaced x.retreats) r.station ≡ None = sym (w.shows.retreats r.station) ∙ none_of _ vacant in
+      ok_and _ (retreat_added x place r) (add_retreat x place r)
+      (met _ _ _ ok ∙ met _ _ _ (ap (λ (o : Option Retreat). not (is_some o)) new))
+      (record {
+        place = w.place;
+        shows = record {
+          edges = λ s l n. ap (λ t. table_in t s l n) same ∙ w.shows.edges s l n;
+          retreats = λ s.
+              after s
+              ∙ ap (λ (o : Option Retreat). cond (eqb r.station s) (Some r) o) (w.shows.retreats s)
+              ∙ sym (first_added (λ (q : Retreat). eqb q.station s) (λ (q : Retreat). q) (unplaced x.retreats) r (λ e. ap (λ u. retreat_of (unplaced x.retreats) u) (sym (same_number r.station s e)) ∙ new))
+              ∙ ap (λ rs. retreat_of rs s) (sym (map-append (λ (q : Placed). q.retreat) x.retreats (p ∷ [])));
+        };
+        named = w.named;
+        listed = pushed ∙ ap (λ ps. ps ++ (p ∷ [])) w.listed;
+      })

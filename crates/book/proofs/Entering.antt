@@ -1,6 +1,7 @@
 -- An edge or a retreat is added to a kind exactly where it is in range and new.
-use Rattle.std.proofs.Common.{◌≡◌, ℕ, true, not, ltb, List, [], ◌∷◌, ◌++◌, is_some, Ok, Result, sym, ap, ◌∙◌, subst, append_assoc, append-nil}
+use Rattle.std.proofs.Common.{◌≡◌, ℕ, true, not, List, [], ◌∷◌, ◌++◌, is_some, Ok, Result, sym, ap, ◌∙◌, subst, append_assoc, append-nil, arith}
 use mathlib.Core.List.{map-append}
+use Rattle.std.proofs.lemmas.Bool.Decides.{nat_tests}
 use Rattle.faults.specs.declared.fault.Fault.{Fault}
 use Rattle.faults.specs.declared.causes.BookCause.TheVariants.{OutOfRange, DeclaredTwice}
 use Rattle.faults.specs.Numbers.{book_fault}
@@ -9,7 +10,7 @@ use Rattle.faults.proofs.Results.{ok_same, bound, needed, met}
 use Rattle.protocol.specs.declared.edges.Edge.{Edge}
 use Rattle.protocol.specs.Lists.{Each, Apart}
 use Rattle.protocol.specs.Tables.{EdgeRanged, edge_in_range, table_of}
-use Rattle.protocol.proofs.Tests.{some_of, both, and_true, not_true, is_not, less, is_less}
+use Rattle.protocol.proofs.Tests.{some_of, not_true, is_not}
 use Rattle.protocol.proofs.Lists.{each_in, in_each, each_join, each_parts, apart_more, apart_before}
 use Rattle.protocol.proofs.Ranges.{edge_ranged, ranged_edge}
 use Rattle.book.specs.declared.automaton.Retreat.{Retreat}
@@ -51,15 +52,10 @@ joined_item k (retreat r) is = joined_assoc k (kind_in (retreat r ∷ [])) (kind
 -- Ranges
 
 retreat_ranged : (r : Retreat) → retreat_in_range r ≡ true → RetreatRanged r
-retreat_ranged r h =
-    let x = both (ltb 0 r.station) _ h in
-    let y = both (ltb r.station 16) _ x.1 in
-    let z = both (ltb r.letter 16) _ y.1 in
-    let w = both (ltb 0 r.rank) (ltb r.rank 16) z.1 in
-    (less 0 r.station x.0, less r.station 16 y.0, less r.letter 16 z.0, less 0 r.rank w.0, less r.rank 16 w.1)
+retreat_ranged r h = grind (arith, nat_tests)
 
 ranged_retreat : (r : Retreat) → RetreatRanged r → retreat_in_range r ≡ true
-ranged_retreat r h = and_true (is_less h.0) (and_true (is_less h.1) (and_true (is_less h.2) (and_true (is_less h.3) (is_less h.4))))
+ranged_retreat r h = grind (arith, nat_tests)
 
 -- New ones
 

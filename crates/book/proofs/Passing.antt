@@ -9,9 +9,10 @@ use Rattle.protocol.proofs.Tests.{and_true, equal_numbers, is_less, is_at_most}
 use Rattle.book.specs.Kinds.{Kind}
 use Rattle.book.specs.Commands.{commands}
 use Rattle.book.specs.Reading.{Draft, start, drafted, closed, open_kind, declare_all, read_book}
-use Rattle.book.specs.Lawful.{Item, edge, retreat, items_bytes, kinds_bytes, kind_in, LawfulKind, Declares}
+use Rattle.book.specs.Lawful.{Item, edge, retreat, items_bytes, kinds_bytes, kind_in, LawfulKind, Declares, BookDecides}
 use Rattle.book.proofs.Entering.{lawful_entered, joined, add, added, added_joined, item_enters}
 use Rattle.book.proofs.Closing.{opened, closed_is}
+use Rattle.book.proofs.Passed.{passed_declares}
 
 -- the bytes of the rest of a kind, where so many are closed, and of later kinds
 abbrev rest_bytes : ℕ → List Item → List (List Item) → List ℕ
@@ -74,10 +75,13 @@ from_start (is ∷ iss) few l =
     let n : ℕ = suc (length (rest_bytes 0 is iss)) in
     kind_passes n (passes n) 0 is iss [] (omega arith) (omega arith) l.0 l.1
 
-pub declared_passes : (bs : List ℕ) (ks : List Kind) → Declares bs ks → read_book bs ≡ Ok ks
+declared_passes : (bs : List ℕ) (ks : List Kind) → Declares bs ks → read_book bs ≡ Ok ks
 declared_passes bs ks x =
     let few : length x.items ≤ 8 = omega (arith, ap length x.kinds, length-map x.items kind_in, x.few) in
     met (leb (length bs) 8192) _ _ (is_at_most x.short)
     ∙ ap (λ (v : List ℕ). declare_all start (commands (length v) 0 v)) x.written
     ∙ from_start x.items few (subst (Each LawfulKind) x.kinds x.lawful)
     ∙ ap (λ (v : List Kind). Ok v) (sym x.kinds)
+
+pub decides : BookDecides
+decides bs ks = (passed_declares bs ks, declared_passes bs ks)

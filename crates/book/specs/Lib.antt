@@ -3,5 +3,6 @@ pub mod Commands
 pub mod Reading
 pub mod Lawful
 pub mod Home
+pub mod Automata
 pub mod Shown
 pub mod Held

@@ -1,12 +1,16 @@
 // A kind of device as an automaton, by tables.
-ghost use Rattle.std.specs.Prelude.{◌≡◌, ℕ, true, false, not, ◌&&◌, length, is_some, if◌then◌else◌, Some, None, ◌==◌, slice_set};
-ghost use Rattle.book.specs.Kinds.{falls, nearer, no_kind, rank_of, retreat_in_range};
-ghost use Rattle.book.specs.Shown.{Shows, edges_of, free, retreats_of};
+ghost use Rattle.std.specs.Prelude.{◌≡◌, ℕ, ◌+◌, ◌≤◌, not, ◌&&◌, is_some, if◌then◌else◌, Some, ◌==◌};
+ghost use Rattle.book.specs.Automata.{IsEmpty, edges_of, retreat_count, retreats_of};
+ghost use Rattle.book.specs.Kinds.{falls, nearer, rank_of, retreat_in_range};
 
-use protocol::{EdgeTable, LETTERS, STATIONS};
+use arrayvec::ArrayVec;
+use protocol::{ANSWERS, EdgeTable, LETTERS, STATIONS};
+
+// Ranks are 0 to 15.
+const RANKS: u8 = 16;
 
 // The letter that leads a station towards away, and a bound on how many letters it takes from there.
-#[derive(Clone, Copy, PartialEq, Eq, Debug)]
+#[derive(Clone, Copy, Default, PartialEq, Eq, Debug)]
 pub struct Retreat {
     pub station: u8,
     pub letter: u8,
@@ -17,11 +21,9 @@ impl Retreat {
     pub(crate) fn in_range(&self) -> bool
         ensures { result ≡ retreat_in_range self.now }
     {
-        0 < self.station
-            && self.station < STATIONS
+        (1..STATIONS).contains(&self.station)
             && self.letter < LETTERS
-            && 0 < self.rank
-            && self.rank < 16
+            && (1..RANKS).contains(&self.rank)
     }
 }
 
@@ -32,44 +34,40 @@ pub struct Automaton {
     pub retreats: [Option<Retreat>; 16],
 }
 
-impl Automaton {
-    pub(crate) fn new() -> Automaton
-        ensures { (Shows result no_kind) × (free result.retreats ≡ 16) }
-    {
-        let edges = EdgeTable::new();
+// By the numbers of their kinds.
+pub type Automata = ArrayVec<Automaton, 8>;
+
+impl Default for Automaton {
+    ghost is_default = { IsEmpty };
+
+    fn default() -> Automaton {
         Automaton {
-            edges,
+            edges: EdgeTable::new(),
             retreats: [None; 16],
         }
     }
+}
 
+impl Automaton {
     pub(crate) fn retreat(&self, station: u8) -> Option<Retreat>
         ensures { result ≡ retreats_of self.now station }
     {
-        if station < STATIONS {
-            self.retreats[station as usize]
-        } else {
-            None
-        }
+        *self.retreats.get(usize::from(station))?
     }
 
     // The rank of a station; 0 at away, and where there is no retreat.
-    pub(crate) fn rank(&self, station: u8) -> u8
+    fn rank(&self, station: u8) -> u8
         ensures { result ≡ rank_of (retreats_of self.now station) }
     {
-        match self.retreat(station) {
-            Some(retreat) => retreat.rank,
-            None => 0,
-        }
+        self.retreat(station).map_or(0, |retreat| retreat.rank)
     }
 
     fn nears(&self, retreat: Retreat, answer: u8) -> bool
         ensures { result ≡ nearer (retreats_of self.now) retreat (edges_of self.now retreat.station retreat.letter answer) }
     {
-        match self.edges.edge(retreat.station, retreat.letter, answer) {
-            Some(to) => self.rank(to) < retreat.rank,
-            None => true,
-        }
+        self.edges
+            .edge(retreat.station, retreat.letter, answer)
+            .is_none_or(|to| self.rank(to) < retreat.rank)
     }
 
     // The letter is allowed, and every answer to it leads to a smaller rank.
@@ -77,10 +75,7 @@ impl Automaton {
         ensures { result ≡ falls (edges_of self.now) (retreats_of self.now) retreat }
     {
         self.edges.allowed(retreat.station, retreat.letter)
-            && self.nears(retreat, 0)
-            && self.nears(retreat, 1)
-            && self.nears(retreat, 2)
-            && self.nears(retreat, 3)
+            && (0..ANSWERS).all(|answer| self.nears(retreat, answer))
     }
 
     // Takes in a retreat that is in range and new; any other changes nothing.
@@ -88,13 +83,13 @@ impl Automaton {
         ensures answer { result ≡ (retreat_in_range retreat && not (is_some (retreats_of self.old retreat.station))) }
         ensures edges { self.new.edges ≡ self.old.edges }
         ensures after { (s : ℕ) → retreats_of self.new s ≡ (if result && retreat.station == s then Some retreat else retreats_of self.old s) }
-        ensures places { self.new.retreats ≡ (if result then slice_set self.old.retreats retreat.station (Some retreat) else self.old.retreats) }
-        ensures whole { result ≡ true → length self.old.retreats ≡ 16 }
+        ensures counted { retreat_count self.new ≡ retreat_count self.old + (if result then 1 else 0) }
+        ensures few { retreat_count self.new ≤ 16 }
     {
-        if !retreat.in_range() || self.retreat(retreat.station).is_some() {
-            return false;
+        let new = retreat.in_range() && self.retreat(retreat.station).is_none();
+        if new {
+            self.retreats[usize::from(retreat.station)] = Some(retreat);
         }
-        self.retreats[retreat.station as usize] = Some(retreat);
-        true
+        new
     }
 }

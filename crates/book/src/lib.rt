@@ -6,7 +6,6 @@ mod book;
 mod draft;
 mod laws;
 mod reader;
-mod tables;
 #[cfg(test)]
 mod tests;
 

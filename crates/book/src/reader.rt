@@ -1,57 +1,64 @@
 // Reads a book command by command.
-ghost use Rattle.std.specs.Prelude.{suc, take, None};
-ghost use Rattle.book.specs.Commands.{EDGE, KIND, RETREAT, width};
-ghost use Rattle.book.specs.Reading.{Reading, closed, declare, read_book, start};
-ghost use Rattle.book.specs.Shown.{Fits, Gives, Listed, Reads, Took, declare_first, first_code};
+ghost use Rattle.std.specs.Prelude.{◌<◌, length, OnSome};
+ghost use Rattle.std.proofs.Props.{props};
 
-use crate::automaton::Retreat;
+use crate::automaton::{Automata, Retreat};
 use crate::draft::Draft;
-use crate::tables::Tables;
 use faults::{BookCause, Fault, Layer, NOWHERE};
 use protocol::Edge;
 
 // The bytes of the longest book.
 const MOST_BYTES: usize = 8192;
 
-// The kinds that are closed, and the one that is being declared.
-#[derive(Clone, Copy)]
+// The first bytes of the commands.
+const KIND: u8 = 0x01;
+
+const EDGE: u8 = 0x02;
+
+const RETREAT: u8 = 0x03;
+
+// The kinds that are closed, and the one that is being declared, for which there is room.
+#[derive(Drop)]
 pub struct Reader {
-    tables: Tables,
+    kinds: Automata,
     draft: Option<Draft>,
+    ghost room: { OnSome draft (length kinds.items < 8) } by { Prim.hlevel props },
 }
 
 impl Reader {
-    pub(crate) fn new() -> Reader
+    ghost use Rattle.std.specs.Prelude.{suc, take, None};
+    ghost use Rattle.book.specs.Automata.{Listed};
+    ghost use Rattle.book.specs.Commands.{code_of, width};
+    ghost use Rattle.book.specs.Reading.{Reading, closed, declare, read_book, start};
+    ghost use Rattle.book.specs.Shown.{Gives, Reads, Took, declare_first, first_code};
+
+    fn new() -> Reader
         ensures { Reads result start }
     {
         Reader {
-            tables: Tables::new(),
+            kinds: Automata::new(),
             draft: None,
         }
     }
 
     // Closes the kind that is being declared, if there is one.
-    pub(crate) fn close(&mut self) -> Result<(), Fault>
-        requires { Fits self.old }
+    fn close(&mut self) -> Result<(), Fault>
         ensures { (x : Reading) → Reads self.old x → Gives (λ _ ks. Reads self.new (record { kinds = ks; draft = None })) result (closed x) }
     {
-        if let Some(draft) = &self.draft {
-            let automaton = draft.close()?;
-            self.tables.add(automaton);
-            self.draft = None;
+        if let Some(draft) = self.draft.take() {
+            self.kinds.push(draft.close()?);
         }
         Ok(())
     }
 
     fn kind<'a>(&mut self, place: u16, operands: &'a [u8]) -> Result<&'a [u8], Fault>
-        requires { Fits self.old }
-        ensures { (x : Reading) → Reads self.old x → Gives (Took self.new 1 operands.now) result (declare x place KIND (take 1 operands.now)) }
+        ensures { (x : Reading) → Reads self.old x → Gives (Took self.new 1 operands.now) result (declare x place (code_of KIND) (take 1 operands.now)) }
     {
         self.close()?;
-        let [number, rest @ ..] = operands else {
+        let &[number, ref rest @ ..] = operands else {
             return Err(BookCause::MissingOperands.at(place));
         };
-        if *number as usize != self.tables.count || self.tables.count >= 8 {
+        if usize::from(number) != self.kinds.len() || self.kinds.is_full() {
             return Err(BookCause::OutOfRange.at(place));
         }
         self.draft = Some(Draft::new(place));
@@ -59,71 +66,69 @@ impl Reader {
     }
 
     fn edge<'a>(&mut self, place: u16, operands: &'a [u8]) -> Result<&'a [u8], Fault>
-        requires { Fits self.old }
-        ensures { (x : Reading) → Reads self.old x → Gives (Took self.new 4 operands.now) result (declare x place EDGE (take 4 operands.now)) }
+        ensures { (x : Reading) → Reads self.old x → Gives (Took self.new 4 operands.now) result (declare x place (code_of EDGE) (take 4 operands.now)) }
     {
-        let [from, letter, answer, to, rest @ ..] = operands else {
+        let &[from, letter, answer, to, ref rest @ ..] = operands else {
             return Err(BookCause::MissingOperands.at(place));
         };
         let edge = Edge {
-            from: *from,
-            letter: *letter,
-            answer: *answer,
-            to: *to,
+            from,
+            letter,
+            answer,
+            to,
         };
-        let Some(draft) = &mut self.draft else {
-            return Err(BookCause::OutOfRange.at(place));
-        };
-        draft.add_edge(place, edge)?;
+        self.draft
+            .as_mut()
+            .ok_or(BookCause::OutOfRange.at(place))?
+            .add_edge(place, edge)?;
         Ok(rest)
     }
 
+    // Beside edge, since the operands of a command are a pattern, and no function takes one.
     fn retreat<'a>(&mut self, place: u16, operands: &'a [u8]) -> Result<&'a [u8], Fault>
-        requires { Fits self.old }
-        ensures { (x : Reading) → Reads self.old x → Gives (Took self.new 3 operands.now) result (declare x place RETREAT (take 3 operands.now)) }
+        ensures { (x : Reading) → Reads self.old x → Gives (Took self.new 3 operands.now) result (declare x place (code_of RETREAT) (take 3 operands.now)) }
     {
-        let [station, letter, rank, rest @ ..] = operands else {
+        let &[station, letter, rank, ref rest @ ..] = operands else {
             return Err(BookCause::MissingOperands.at(place));
         };
         let retreat = Retreat {
-            station: *station,
-            letter: *letter,
-            rank: *rank,
+            station,
+            letter,
+            rank,
         };
-        let Some(draft) = &mut self.draft else {
-            return Err(BookCause::OutOfRange.at(place));
-        };
-        draft.add_retreat(place, retreat)?;
+        self.draft
+            .as_mut()
+            .ok_or(BookCause::OutOfRange.at(place))?
+            .add_retreat(place, retreat)?;
         Ok(rest)
     }
 
     // Takes the first command of the bytes, which stands at the place, and gives the rest.
-    pub(crate) fn declare<'a>(&mut self, place: u16, bytes: &'a [u8]) -> Result<&'a [u8], Fault>
-        requires { Fits self.old }
+    fn declare<'a>(&mut self, place: u16, bytes: &'a [u8]) -> Result<&'a [u8], Fault>
         ensures { (x : Reading) → Reads self.old x → Gives (Took self.new (suc (width (first_code bytes.now))) bytes.now) result (declare_first x place bytes.now) }
     {
         match bytes {
-            [0x01, operands @ ..] => self.kind(place, operands),
-            [0x02, operands @ ..] => self.edge(place, operands),
-            [0x03, operands @ ..] => self.retreat(place, operands),
+            [KIND, operands @ ..] => self.kind(place, operands),
+            [EDGE, operands @ ..] => self.edge(place, operands),
+            [RETREAT, operands @ ..] => self.retreat(place, operands),
             _ => Err(BookCause::UnknownCommand.at(place)),
         }
     }
-}
 
-// The tables of the kinds that the bytes declare, or the first fault.
-pub(crate) fn read(bytes: &[u8]) -> Result<Tables, Fault>
-    ensures { Gives Listed result (read_book bytes.now) }
-{
-    if bytes.len() > MOST_BYTES {
-        return Err(BookCause::TooLong.at(NOWHERE));
+    // The automata of the kinds that the bytes declare, or the first fault.
+    pub(crate) fn read(bytes: &[u8]) -> Result<Automata, Fault>
+        ensures { Gives (λ v ks. Listed v.items ks) result (read_book bytes.now) }
+    {
+        if bytes.len() > MOST_BYTES {
+            return Err(BookCause::TooLong.at(NOWHERE));
+        }
+        let mut reader = Reader::new();
+        let mut rest = bytes;
+        while !rest.is_empty() {
+            let place = (bytes.len() - rest.len()) as u16;
+            rest = reader.declare(place, rest)?;
+        }
+        reader.close()?;
+        Ok(reader.kinds)
     }
-    let mut reader = Reader::new();
-    let mut rest = bytes;
-    while !rest.is_empty() {
-        let place = (bytes.len() - rest.len()) as u16;
-        rest = reader.declare(place, rest)?;
-    }
-    reader.close()?;
-    Ok(reader.tables)
 }

@@ -32,13 +32,11 @@ fn a_refusal_keeps_the_held_book(rt: HostRuntime) -> Result<(), Fail> {
     risen[58] = 3;
     let mut book = Book::new();
     book.check(&HOUSE)?;
-    match book.check(&risen) {
-        Ok(()) => return Err(Fail::new("passed")),
-        Err(fault) => {
-            assert_eq!(rt; fault.number(), 7);
-            assert_eq!(rt; fault.place(), 56);
-        }
-    }
+    let Err(fault) = book.check(&risen) else {
+        return Err(Fail::new("passed"));
+    };
+    assert_eq!(rt; fault.number(), 7);
+    assert_eq!(rt; fault.place(), 56);
     assert_eq!(rt; book.kinds(), 1);
     assert_eq!(rt; book.bytes().len(), 68);
     assert_eq!(rt; book.retreat_letter(0, 2), Some(6));

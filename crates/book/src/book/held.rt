@@ -1,16 +1,17 @@
 // The book that is held: at first empty and passed, later what its checks put in its place.
-ghost use Rattle.std.specs.Prelude.{◌≡◌, [], length, is_ok, if◌then◌else◌, Ok, Err};
+ghost use Rattle.std.specs.Prelude.{◌≡◌, [], length, is_ok, is_some, if◌then◌else◌, Ok, MatchOption, OnErr, nat_lt};
 ghost use Rattle.std.specs.Option.{option_map};
 ghost use Rattle.protocol.specs.Tables.{table_of};
+ghost use Rattle.book.specs.Automata.{Shows};
 ghost use Rattle.book.specs.Held.{bytes_of, kind_held, kinds_held, rank_held};
-ghost use Rattle.book.specs.Kinds.{retreat_of};
+ghost use Rattle.book.specs.Kinds.{no_kind, retreat_of};
 ghost use Rattle.book.specs.Lawful.{BookDecides};
 ghost use Rattle.book.specs.Home.{RetreatsLeadHome};
 ghost use Rattle.book.specs.Reading.{read_book, verdict};
 
 use super::Book;
-use crate::reader::read;
-use crate::tables::Tables;
+use crate::automaton::{Automata, Automaton};
+use crate::reader::Reader;
 use faults::Fault;
 use protocol::AWAY;
 
@@ -21,7 +22,7 @@ impl<'a> Book<'a> {
     {
         Book {
             bytes: &[],
-            tables: Tables::new(),
+            kinds: Automata::new(),
         }
     }
 
@@ -29,12 +30,12 @@ impl<'a> Book<'a> {
     pub fn check(&mut self, bytes: &'a [u8]) -> Result<(), Fault>
         ensures answer { result ≡ verdict (read_book bytes.now) }
         ensures held { bytes_of self.new ≡ (if is_ok result then bytes.now else bytes_of self.old) }
-        ensures refused { elim result [ Ok _ ↦ Unit {0} | Err _ ↦ self.new ≡ self.old ] }
+        ensures refused { OnErr result (self.new ≡ self.old) }
         ensures decides { BookDecides }
         ensures home { RetreatsLeadHome }
     {
-        let tables = read(bytes)?;
-        *self = Book { bytes, tables };
+        let kinds = Reader::read(bytes)?;
+        *self = Book { bytes, kinds };
         Ok(())
     }
 
@@ -50,39 +51,40 @@ impl<'a> Book<'a> {
     pub fn kinds(&self) -> u8
         ensures { result ≡ length (kinds_held self.now) }
     {
-        self.tables.count as u8
+        self.kinds.len() as u8
+    }
+
+    fn automaton(&self, kind: u8) -> Option<&Automaton>
+        ensures known { is_some result ≡ nat_lt kind (length (kinds_held self.now)) }
+        ensures shows { MatchOption result (kind_held self.now kind ≡ no_kind) (λ a. Shows a.now (kind_held self.now kind)) }
+    {
+        self.kinds.get(usize::from(kind))
     }
 
     // Where an edge of a kind leads; none outside the ranges.
     pub fn edge(&self, kind: u8, station: u8, letter: u8, answer: u8) -> Option<u8>
         ensures { result ≡ table_of (kind_held self.now kind).edges station letter answer }
     {
-        self.tables.edge(kind, station, letter, answer)
+        self.automaton(kind)?.edges.edge(station, letter, answer)
     }
 
     // The retreat letter of a station of a kind; none at away, and where there is no retreat.
     pub fn retreat_letter(&self, kind: u8, station: u8) -> Option<u8>
         ensures { result ≡ option_map (λ q. q.letter) (retreat_of (kind_held self.now kind).retreats station) }
     {
-        match self.tables.retreat(kind, station) {
-            Some(retreat) => Some(retreat.letter),
-            None => None,
-        }
+        let retreat = self.automaton(kind)?.retreat(station)?;
+        Some(retreat.letter)
     }
 
     // The rank of a station of a kind: 0 at away, else that of its retreat.
     pub fn rank(&self, kind: u8, station: u8) -> Option<u8>
         ensures { result ≡ rank_held self.now kind station }
     {
-        if kind as usize >= self.tables.count {
-            return None;
-        }
+        let automaton = self.automaton(kind)?;
         if station == AWAY {
             return Some(0);
         }
-        match self.tables.retreat(kind, station) {
-            Some(retreat) => Some(retreat.rank),
-            None => None,
-        }
+        let retreat = automaton.retreat(station)?;
+        Some(retreat.rank)
     }
 }

@@ -1,6 +1,6 @@
 use Rattle.std.proofs.Common.{length}
 use Rattle.book.proofs.Books.{Left}
-use Rattle.book.proofs.reader.read.Given as goal
+use Rattle.book.proofs.reader.Reader.read.Given as goal
 
 abbrev pub invariant-loop-rest : goal.invariant-loop-rest
 invariant-loop-rest l = Left l.bytes l.reader l.rest
