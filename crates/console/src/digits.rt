@@ -14,7 +14,7 @@ pub(crate) fn hex_bytes(heap: Global, digits: &[u8]) -> Result<Option<Vec<u8>>, 
 {
     let digits = without_blanks(heap, digits)?;
     let mut bytes = vec![in heap; 0; digits.len() / 2]?;
-    match decode_to_slice(digits.as_slice(), &mut bytes) {
+    match decode_to_slice(digits.as_slice(), bytes.as_mut_slice()) {
         Ok(()) => Ok(Some(bytes)),
         Err(_) => Ok(None),
     }

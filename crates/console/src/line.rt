@@ -18,7 +18,7 @@ pub enum Command {
 #[derive(Clone, Copy, Debug, PartialEq, Eq)]
 pub struct NotUnderstood;
 
-// None asks for nothing.
+// What a line asks for, if anything.
 pub type Line = Option<Result<Command, NotUnderstood>>;
 
 pub fn parse_line(heap: Global, line: &[u8]) -> Result<Line, AllocError>
@@ -36,11 +36,10 @@ fn parse_command(heap: Global, text: &[u8]) -> Result<Result<Command, NotUnderst
 {
     let (word, rest) = split_word(text);
     match word {
-        b"book" => Ok(
-            hex_bytes(heap, rest)?
-                .map(Command::Book)
-                .ok_or(NotUnderstood),
-        ),
+        b"book" => {
+            let bytes = hex_bytes(heap, rest)?;
+            Ok(bytes.map(Command::Book).ok_or(NotUnderstood))
+        }
         _ => Ok(Err(NotUnderstood)),
     }
 }

@@ -29,8 +29,8 @@ impl fmt::Display for Failure {
 impl From<Fault> for Failure {
     ghost from_gives = { λ fault r. r ≡ Refused fault };
 
-    fn from(fault: Fault) -> Failure {
-        Failure::Refused(fault)
+    fn from(refusal: Fault) -> Failure {
+        Failure::Refused(refusal)
     }
 }
 

@@ -1,4 +1,4 @@
-use Rattle.std.proofs.Common.{◌≡◌, vec_items, ◌++◌, length, ◌/◌, Some, take, drop, sym, ap, ◌∙◌, arith}
+use Rattle.std.proofs.Common.{◌≡◌, vec_items, ◌++◌, length, Some, take, drop, sym, ap, ◌∙◌, arith}
 use Rattle.std.specs.Option.{option_map}
 use Rattle.std.specs.Result.{result_ok}
 use Rattle.std.proofs.lemmas.List.{append-nil, drop_all, take_all}
@@ -13,11 +13,11 @@ returns-in-Ok c =
     ap (λ l. take c.in_ok-bytes.bytes.len (out ++ l)) (drop_all (length out) (vec_items c.in_ok-bytes.bytes) (omega arith)) ∙ ap (take c.in_ok-bytes.bytes.len) (append-nil out) ∙ take_all c.in_ok-bytes.bytes.len out (omega arith) in
     ap Some whole
     ∙ ap (λ r. option_map (λ u. out) (result_ok r)) (sym c.in-Ok.is)
-    ∙ decoded c.as_slice.result.now out (length c.deref_mut.result.now) c.decode_to_slice.result (omega (arith, c.in_ok-bytes.ensures.len)) c.decode_to_slice.ensures.value
+    ∙ decoded c.as_slice.result.now out (length c.as_mut_slice.result.now) c.decode_to_slice.result (omega (arith, c.in_ok-bytes.ensures.len)) c.decode_to_slice.ensures.value
     ∙ ap hex_bytes (c.as_slice.ensures.value ∙ c.in_ok-digits.ensures)
 
 pub returns : goal.returns
 returns c =
     ap (λ r. option_map (λ u. c.decode_to_slice.new.out) (result_ok r)) (sym c.in-Err.is)
-    ∙ decoded c.as_slice.result.now c.decode_to_slice.new.out (length c.deref_mut.result.now) c.decode_to_slice.result (omega (arith, c.in_ok-bytes.ensures.len)) c.decode_to_slice.ensures.value
+    ∙ decoded c.as_slice.result.now c.decode_to_slice.new.out (length c.as_mut_slice.result.now) c.decode_to_slice.result (omega (arith, c.in_ok-bytes.ensures.len)) c.decode_to_slice.ensures.value
     ∙ ap hex_bytes (c.as_slice.ensures.value ∙ c.in_ok-digits.ensures)
