@@ -1,6 +1,2 @@
-pub mod Books
-pub mod Digits
-pub mod Leading
-pub mod Lines
+pub mod Pairs
 pub mod Rows
-pub mod Transcripts

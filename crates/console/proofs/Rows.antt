@@ -1,46 +1,34 @@
--- The rows of an input, one by one.
-use Rattle.std.proofs.Common.{◌≡◌, ℕ, ◌+◌, ◌<◌, Bool, true, false, cond, not, eqb, List, [], ◌∷◌, ◌++◌, map, length, take, drop, sym, refl, ap, ◌∙◌, append_assoc, append-nil, add-one, one-add, arith, length-drop}
-use Rattle.std.specs.List.{prefix_len}
-use Rattle.std.proofs.lemmas.List.{map_push, nil_from_length}
-use Rattle.std.proofs.lemmas.Bool.{eqb-false, eqb-true}
-use Rattle.console.specs.declared.line.Line.{Line}
+-- The parts between newlines are the rows, and after a last newline there is an empty part more, which asks for nothing.
+use Rattle.std.proofs.Common.{◌≡◌, ℕ, ◌+◌, ◌==◌, Bool, true, false, cond, ◌⊎◌, inl, inr, ⊎_elim, List, [], ◌∷◌, ◌++◌, map, refl, ap, ◌∙◌}
+use Rattle.std.specs.List.{onto_first, slice_split}
 use Rattle.console.specs.Lines.{line_of}
-use Rattle.console.specs.Rows.{after_row, first_row, in_row, lines_of, onto_first, rows}
-use Rattle.console.specs.Views.{view}
+use Rattle.console.specs.Rows.{lines_of, rows}
+use Rattle.console.specs.Transcripts.{answer_of, printed, transcript_of}
 
-abbrev cut : ℕ → List ℕ → List (List ℕ)
-cut n bs = take n bs ∷ rows (drop (n + 1) bs)
+abbrev parts : List ℕ → List (List ℕ)
+parts bs = slice_split (λ b. b == 10) bs
 
-one_on : (n b : ℕ) (bs : List ℕ) → onto_first b (cut n bs) ≡ cut (1 + n) (b ∷ bs)
-one_on n b bs = simp (one-add, add-one)
+abbrev IsLonger : List (List ℕ) → List (List ℕ) → Type 0
+IsLonger ps rs = (ps ≡ rs) ⊎ (ps ≡ rs ++ ([] ∷ []))
 
-goes_on : (b : ℕ) (bs : List ℕ) (t : Bool) → onto_first b (rows bs) ≡ cut (1 + prefix_len in_row bs) (b ∷ bs) → cond t ([] ∷ rows bs) (onto_first b (rows bs)) ≡ cut (cond (not t) (1 + prefix_len in_row bs) 0) (b ∷ bs)
-goes_on b bs true so = refl
-goes_on b bs false so = so
+onto : (b : ℕ) (ps rs : List (List ℕ)) → IsLonger ps rs → IsLonger (onto_first b ps) (onto_first b rs)
+onto b ps rs (inl e) = inl (ap (onto_first b) e)
+onto b ps [] (inr e) = inl (ap (onto_first b) e)
+onto b ps (r ∷ rs) (inr e) = inr (ap (onto_first b) e)
 
-split : (b : ℕ) (bs : List ℕ) → rows (b ∷ bs) ≡ cut (prefix_len in_row (b ∷ bs)) (b ∷ bs)
-split b [] = goes_on b [] (eqb b 10) refl
-split b (d ∷ ds) = goes_on b (d ∷ ds) (eqb b 10) (ap (onto_first b) (split d ds) ∙ one_on (prefix_len in_row (d ∷ ds)) b (d ∷ ds))
+begun : (t : Bool) (b : ℕ) (ps rs : List (List ℕ)) → IsLonger ps rs → IsLonger (cond t ([] ∷ ps) (onto_first b ps)) (cond t ([] ∷ rs) (onto_first b rs))
+begun true b ps rs (inl e) = inl (ap (λ l. [] ∷ l) e)
+begun true b ps rs (inr e) = inr (ap (λ l. [] ∷ l) e)
+begun false b ps rs h = onto b ps rs h
 
-rows_some : (bs : List ℕ) → eqb (length bs) 0 ≡ false → rows bs ≡ first_row bs ∷ rows (after_row bs)
-rows_some [] some = absurd (eqb-false 0 0 some refl)
-rows_some (b ∷ bs) some = split b bs
+one_more : (bs : List ℕ) → IsLonger (parts bs) (rows bs)
+one_more [] = inr refl
+one_more (b ∷ bs) = begun (b == 10) b (parts bs) (rows bs) (one_more bs)
 
-pub shorter : (bs after : List ℕ) → eqb (length bs) 0 ≡ false → after ≡ after_row bs → length after < length bs
-shorter bs after some is =
-    let more = eqb-false (length bs) 0 some in
-    omega (arith, more, ap length is, length-drop (prefix_len in_row bs + 1) bs)
+unanswered : (number : ℕ) (rs : List (List ℕ)) → transcript_of number (map line_of (rs ++ ([] ∷ []))) ≡ transcript_of number (map line_of rs)
+unanswered number [] = refl
+unanswered number (r ∷ rs) = ap (λ t. printed (answer_of number (line_of r)) ++ t) (unanswered (number + 1) rs)
 
-pub line_more : (input rest row after : List ℕ) (before now : List Line) (line : Line) → eqb (length rest) 0 ≡ false → row ≡ first_row rest → after ≡ after_row rest → view line ≡ line_of row → now ≡ before ++ line ∷ [] → lines_of input ≡ map view before ++ lines_of rest → lines_of input ≡ map view now ++ lines_of after
-line_more input rest row after before now line some front back parsed pushed so =
-    so
-    ∙ ap (λ l. map view before ++ map line_of l) (rows_some rest some)
-    ∙ ap (λ l. map view before ++ (line_of l ∷ map line_of (rows (after_row rest)))) (sym front)
-    ∙ ap (λ l. map view before ++ (l ∷ map line_of (rows (after_row rest)))) (sym parsed)
-    ∙ ap (λ l. map view before ++ (view line ∷ map line_of (rows l))) (sym back)
-    ∙ sym (append_assoc (map view before) (view line ∷ []) (lines_of after))
-    ∙ ap (λ l. l ++ lines_of after) (sym (map_push view before line) ∙ ap (map view) (sym pushed))
-
-pub line_last : (input rest : List ℕ) (before : List Line) → eqb (length rest) 0 ≡ true → lines_of input ≡ map view before ++ lines_of rest → lines_of input ≡ map view before
-line_last input rest before none so =
-    so ∙ ap (λ l. map view before ++ lines_of l) (nil_from_length rest (eqb-true (length rest) 0 none)) ∙ append-nil (map view before)
+pub same_answers : (number : ℕ) (bs : List ℕ) → transcript_of number (map line_of (slice_split (λ b. b == 10) bs)) ≡ transcript_of number (lines_of bs)
+same_answers number bs =
+    ⊎_elim (λ e. ap (λ rs. transcript_of number (map line_of rs)) e) (λ e. ap (λ rs. transcript_of number (map line_of rs)) e ∙ unanswered number (rows bs)) (one_more bs)

@@ -1,10 +1,14 @@
 -- What a line in memory holds.
-use Rattle.std.specs.Prelude.{vec_items}
-use Rattle.console.specs.declared.line.Line.{Line}
-use Rattle.console.specs.declared.line.Line.TheVariants.{Blank, Book, Unknown}
+use Rattle.std.specs.Prelude.{vec_items, Some, None, Ok, Err, Option, Result}
+use Rattle.console.specs.declared.line.Command.{Command}
+use Rattle.console.specs.declared.line.Command.TheVariants.{Book}
+use Rattle.console.specs.declared.line.NotUnderstood.{NotUnderstood}
 use Rattle.console.specs.Lines.{Parsed, blank, book, unknown}
 
-abbrev pub view : Line → Parsed
-view Blank = blank
-view (Book v) = book (vec_items v)
-view Unknown = unknown
+abbrev pub asked : Result Command NotUnderstood → Parsed
+asked (Ok (Book v)) = book (vec_items v)
+asked (Err e) = unknown
+
+abbrev pub view : Option (Result Command NotUnderstood) → Parsed
+view None = blank
+view (Some command) = asked command

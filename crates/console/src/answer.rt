@@ -2,16 +2,16 @@
 ghost use Rattle.std.specs.Prelude.{◌≡◌, is_ok, if◌then◌else◌, Some};
 ghost use Rattle.book.specs.Held.{bytes_of};
 ghost use Rattle.book.specs.Reading.{read_book};
-ghost use Rattle.console.specs.Answers.{answer_text, book_answer};
+ghost use Rattle.console.specs.Answers.{answer_text, count_kinds};
 
 use book::Book;
 use faults::Fault;
 use std::fmt;
 
-#[derive(Clone, Copy)]
+#[derive(Clone, Copy, Debug, PartialEq, Eq)]
 pub enum Answer {
-    BookPassed(u8),
-    BookRefused(Fault),
+    // how many kinds the book has, or why it is refused
+    Book(Result<u8, Fault>),
     // the number of the line, from 1
     NotUnderstood(u64),
 }
@@ -22,8 +22,8 @@ impl fmt::Display for Answer {
 
     fn fmt<W: fmt::Write>(&self, f: &mut fmt::Formatter<W>) -> fmt::Result {
         match self {
-            Answer::BookPassed(kinds) => write!(f, "book passed, {kinds} kinds"),
-            Answer::BookRefused(fault) => {
+            Answer::Book(Ok(kinds)) => write!(f, "book passed, {kinds} kinds"),
+            Answer::Book(Err(fault)) => {
                 let number = fault.number();
                 let place = fault.place();
                 write!(f, "book refused {number} at {place}")
@@ -33,13 +33,11 @@ impl fmt::Display for Answer {
     }
 }
 
-// A book that passes is held from then on.
-pub fn answer_book<'a>(book: &mut Book<'a>, bytes: &'a [u8]) -> Answer
-    ensures answer { result ≡ book_answer (read_book bytes.now) }
+// How many kinds the book has, which is held from then on, or why it is refused.
+pub fn answer_book<'a>(book: &mut Book<'a>, bytes: &'a [u8]) -> Result<u8, Fault>
+    ensures answer { result ≡ count_kinds (read_book bytes.now) }
     ensures held { bytes_of book.new ≡ (if is_ok (read_book bytes.now) then bytes.now else bytes_of book.old) }
 {
-    match book.check(bytes) {
-        Ok(()) => Answer::BookPassed(book.kinds()),
-        Err(fault) => Answer::BookRefused(fault),
-    }
+    book.check(bytes)?;
+    Ok(book.kinds())
 }

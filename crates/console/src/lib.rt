@@ -2,7 +2,7 @@
 #![tactic(auto)]
 
 mod answer;
-mod hex;
+mod digits;
 mod line;
 mod session;
 #[cfg(test)]
@@ -10,5 +10,5 @@ mod tests;
 mod words;
 
 pub use answer::{Answer, answer_book};
-pub use line::{Line, parse_line};
+pub use line::{Command, Line, NotUnderstood, parse_line};
 pub use session::{answer_line, transcript};

@@ -1,43 +1,46 @@
 // What a line of input asks for.
 ghost use Rattle.std.specs.Prelude.{◌≡◌, IfOk};
-ghost use Rattle.console.specs.Lines.{book_line, line_of};
-ghost use Rattle.console.specs.Views.{view};
+ghost use Rattle.console.specs.Lines.{after_word, by_word, first_word, line_of};
+ghost use Rattle.console.specs.Views.{asked, view};
 
-use crate::hex::hex_bytes;
-use crate::words::{is_word, skip_blanks, split_word};
+use crate::digits::hex_bytes;
+use crate::words::{skip_blanks, split_word};
 use std::alloc::{AllocError, Global};
 
 // The first byte of a line that asks for nothing.
 const REMARK: u8 = b'#';
 
 #[derive(Drop)]
-pub enum Line {
-    Blank,
+pub enum Command {
     Book(Vec<u8>),
-    Unknown,
 }
 
-// A line goes by its first word.
+// It is answered, and the console goes on.
+#[derive(Clone, Copy, Debug, PartialEq, Eq)]
+pub struct NotUnderstood;
+
+// What a line asks for, if anything.
+pub type Line = Option<Result<Command, NotUnderstood>>;
+
 pub fn parse_line(heap: Global, line: &[u8]) -> Result<Line, AllocError>
     ensures { IfOk result (λ l. view l ≡ line_of line.now) }
 {
-    let text = skip_blanks(line);
-    if text.is_empty() || text[0] == REMARK {
-        return Ok(Line::Blank);
-    }
-    let (word, rest) = split_word(text);
-    if is_word(word, "book") {
-        parse_book(heap, rest)
-    } else {
-        Ok(Line::Unknown)
+    match skip_blanks(line) {
+        [] | [REMARK, ..] => Ok(None),
+        text => Ok(Some(parse_command(heap, text)?)),
     }
 }
 
-fn parse_book(heap: Global, digits: &[u8]) -> Result<Line, AllocError>
-    ensures { IfOk result (λ l. view l ≡ book_line digits.now) }
+// A command goes by its first word.
+fn parse_command(heap: Global, text: &[u8]) -> Result<Result<Command, NotUnderstood>, AllocError>
+    ensures { IfOk result (λ r. asked r ≡ by_word (first_word text.now) (after_word text.now)) }
 {
-    match hex_bytes(heap, digits)? {
-        Some(bytes) => Ok(Line::Book(bytes)),
-        None => Ok(Line::Unknown),
+    let (word, rest) = split_word(text);
+    match word {
+        b"book" => {
+            let bytes = hex_bytes(heap, rest)?;
+            Ok(bytes.map(Command::Book).ok_or(NotUnderstood))
+        }
+        _ => Ok(Err(NotUnderstood)),
     }
 }

@@ -1,5 +1,5 @@
-use crate::answer::answer_book;
-use crate::line::{Line, parse_line};
+use crate::answer::{Answer, answer_book};
+use crate::line::{Command, parse_line};
 use crate::session::transcript;
 use book::Book;
 use std::test::Fail;
@@ -17,10 +17,10 @@ fn answers_line_by_line(rt: HostRuntime) -> Result<(), Fail> {
 #[test]
 fn digits_may_be_split(rt: HostRuntime) -> Result<(), Fail> {
     match parse_line(rt.alloc(), b"\tbook a B\tcD9 0")? {
-        Line::Book(bytes) => {
+        Some(Ok(Command::Book(bytes))) => {
             assert_eq!(rt; bytes.as_slice(), [0xab, 0xcd, 0x90].as_slice());
             Ok(())
-        },
+        }
         _ => Err(Fail::new("no book")),
     }
 }
@@ -28,7 +28,7 @@ fn digits_may_be_split(rt: HostRuntime) -> Result<(), Fail> {
 #[test]
 fn a_long_book_is_refused(rt: HostRuntime) -> Result<(), Fail> {
     let bytes = [0; 8193];
-    let answer = answer_book(&mut Book::new(), &bytes);
+    let answer = Answer::Book(answer_book(&mut Book::new(), &bytes));
     let text = answer.to_string(rt.alloc())?;
     assert_eq!(rt; text.as_str(), "book refused 1 at 65535");
     Ok(())

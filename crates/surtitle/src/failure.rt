@@ -1,11 +1,12 @@
 // Why the program ends without success, in words.
 ghost use Rattle.std.specs.Prelude.{◌≡◌};
-ghost use Rattle.surtitle.specs.declared.failure.Failure.TheVariants.{Io};
+ghost use Rattle.surtitle.specs.declared.failure.Failure.TheVariants.{Io, Refused};
 ghost use Rattle.surtitle.specs.Failures.{failure_text};
 
 use faults::Fault;
 use std::{fmt, io};
 
+// What thiserror derives has no contract: the text and the conversions are written out.
 #[derive(Drop)]
 pub enum Failure {
     Usage,
@@ -22,6 +23,14 @@ impl fmt::Display for Failure {
             Failure::Refused(fault) => write!(f, "{fault}"),
             Failure::Io(error) => write!(f, "{error}"),
         }
+    }
+}
+
+impl From<Fault> for Failure {
+    ghost from_gives = { λ fault r. r ≡ Refused fault };
+
+    fn from(refusal: Fault) -> Failure {
+        Failure::Refused(refusal)
     }
 }
 

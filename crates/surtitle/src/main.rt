@@ -24,11 +24,11 @@ fn main(rt: HostRuntime) -> ExitCode {
 }
 
 fn run(rt: &HostRuntime) -> Result<(), Failure> {
-    match request_of(&words(rt)?) {
-        Request::Answer => Ok(answer_input(rt)?),
-        Request::Check(path) => check_file(rt, path),
-        Request::Misused => Err(Failure::Usage),
+    match request_of(&words(rt)?).ok_or(Failure::Usage)? {
+        Request::Answer => answer_input(rt)?,
+        Request::Check(path) => check_file(rt, path)?,
     }
+    Ok(())
 }
 
 // The words of the command line.
@@ -47,10 +47,8 @@ fn answer_input(rt: &HostRuntime) -> io::Result<()> {
 fn check_file(rt: &HostRuntime, path: &str) -> Result<(), Failure> {
     let bytes = fs::read(rt, path)?;
     let mut book = Book::new();
-    let answer = answer_book(&mut book, &bytes);
-    println!(rt; "{answer}")?;
-    match answer {
-        Answer::BookRefused(fault) => Err(Failure::Refused(fault)),
-        _ => Ok(()),
-    }
+    let kinds = answer_book(&mut book, &bytes);
+    println!(rt; "{}", Answer::Book(kinds))?;
+    kinds?;
+    Ok(())
 }

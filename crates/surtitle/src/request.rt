@@ -6,22 +6,15 @@ ghost use Rattle.surtitle.specs.Requests.{asked, asked_of};
 pub enum Request<'a> {
     Answer,
     Check(&'a str),
-    Misused,
 }
 
-// The first word is the program's own name.
-pub fn request_of(args: &[String]) -> Request<'_>
+// None where the program knows no such request; the first word is the program's own name.
+pub fn request_of(args: &[String]) -> Option<Request<'_>>
     ensures { asked result ≡ asked_of (map string_bytes args.now) }
 {
-    if args.len() < 2 {
-        return Request::Answer;
-    }
-    if args.len() != 3 {
-        return Request::Misused;
-    }
-    if args[1].as_str() == "check" {
-        Request::Check(args[2].as_str())
-    } else {
-        Request::Misused
+    match args {
+        [] | [_] => Some(Request::Answer),
+        [_, word, path] if word.as_str() == "check" => Some(Request::Check(path)),
+        _ => None,
     }
 }

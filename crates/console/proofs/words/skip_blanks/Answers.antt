@@ -1,21 +1,14 @@
-use Rattle.std.proofs.Common.{drop, sym, ap, ◌∙◌, arith}
-use Rattle.std.specs.List.{prefix_len}
-use Rattle.std.proofs.lemmas.List.{drop_all, take_rest}
+use Rattle.std.proofs.Common.{rules, tests, drop, ap, ◌∙◌}
+use Rattle.std.proofs.lemmas.Iterator.{YieldsList-from_slice}
+use Rattle.std.proofs.lemmas.Iterator.Consumers.{count_from_yields_List}
+use Rattle.std.proofs.lemmas.Iterator.Search.{YieldsList-from_take_while}
+use Rattle.std.proofs.lemmas.List.{take_rest}
+use Rattle.std.proofs.lemmas.List.Folds.{length-prefix_len}
 use Rattle.console.specs.Lines.{is_blank}
-use Rattle.console.proofs.Leading.{ends, goes_on, stops}
 use Rattle.console.proofs.words.skip_blanks.Goals as goal
-
-pub loop-i-preserved : goal.loop-i-preserved
-loop-i-preserved c =
-    goes_on is_blank c.args.line.now c.loop-i.i c.loop-i.invariant c.loop-i-test.true
-    (sym c.is_blank.ensures ∙ c.if-not-is_blank.false)
-
-pub returns-then-not-is_blank : goal.returns-then-not-is_blank
-returns-then-not-is_blank c =
-    let here = stops is_blank c.args.line.now c.loop-i.i c.loop-i.invariant c.loop-i-test.true (sym c.is_blank.ensures ∙ c.if-not-is_blank.true) in
-    take_rest c.args.line.now c.loop-i.i ∙ ap (λ n. drop n c.args.line.now) (sym here)
 
 pub returns : goal.returns
 returns c =
-    let here = ends is_blank c.args.line.now c.loop-i.i c.loop-i.invariant c.loop-i-test.false in
-    sym (drop_all (prefix_len is_blank c.args.line.now) c.args.line.now (omega (arith, here)))
+    let counted =
+    count_from_yields_List c.take_while.result _ c.count-blanks.ensures.ran (YieldsList-from_take_while _ is_blank (YieldsList-from_slice c.args.line.now cc) c.take_while.ensures.closure c.take_while.ensures.done (λ x b q k. search (rules, tests))) ∙ length-prefix_len is_blank c.args.line.now in
+    take_rest c.args.line.now c.count-blanks.result ∙ ap (λ n. drop n c.args.line.now) counted
