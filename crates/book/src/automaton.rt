@@ -37,6 +37,7 @@ pub struct Automaton {
 // By the numbers of their kinds.
 pub type Automata = ArrayVec<Automaton, 8>;
 
+// Written out, to promise what it shows: a derive would promise its arrays.
 impl Default for Automaton {
     ghost is_default = { IsEmpty };
 

@@ -6,7 +6,7 @@ ghost use Rattle.protocol.specs.Slots.{slot_of, table_in};
 use crate::edges::{ANSWERS, Edge, LETTERS, STATIONS};
 
 // By station, letter and answer, the station to which the edge leads.
-#[derive(Clone, Copy, Default)]
+#[derive(Clone, Copy)]
 pub struct EdgeTable {
     to: [Option<u8>; 1024],
 }
