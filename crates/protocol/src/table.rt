@@ -12,9 +12,7 @@ pub struct EdgeTable {
 }
 
 fn slot(station: u8, letter: u8, answer: u8) -> usize
-    requires station { station < 16 }
-    requires letter { letter < 16 }
-    requires answer { answer < 4 }
+    requires { (station < 16) × ((letter < 16) × (answer < 4)) }
     ensures value { result ≡ slot_of station letter answer }
     ensures within { result < 1024 }
 {
