@@ -1,5 +1,5 @@
 -- The proofs that each device keeps what every device keeps.
-use Rattle.std.specs.Prelude.{◌≡◌, ℕ, ◌^◌, ◌<◌, Bool, true, false, cond, ◌&&◌, Some, None, Option, nat_lt, slice_index, refl}
+use Rattle.std.specs.Prelude.{◌≡◌, ℕ, ◌^◌, ◌<◌, Bool, true, false, cond, Some, None, Option, nat_lt, slice_index_or, refl}
 use Rattle.std.proofs.Common.{lit<}
 use Rattle.protocol.specs.Tables.{Table, Ranged}
 use Rattle.protocol.proofs.Tests.{none_some, less}
@@ -25,7 +25,7 @@ led_within e None s a t r q = absurd (none_some q)
 known : (map : LetterMap) (e : Table) (s l a t : ℕ) → renamed map e s l a ≡ Some t → l < 16
 known map e s l a t q = by (nat_lt l 16) refl q
   where
-    by : (b : Bool) → nat_lt l 16 ≡ b → led_by e s (cond (b && nat_lt (slice_index map.letters l) 16) (Some (slice_index map.letters l)) None) a ≡ Some t → l < 16
+    by : (b : Bool) → nat_lt l 16 ≡ b → led_by e s (cond b (slice_index_or map.letters l None) None) a ≡ Some t → l < 16
     by true h p = less l 16 h
     by false h p = absurd (none_some p)
 

@@ -1,6 +1,7 @@
 pub mod Meaning
 pub mod Kept
 pub mod Projector
+pub mod Letters
 pub mod LetterMap
 pub mod Patch
 pub mod Trail
