@@ -1,6 +1,9 @@
 // What every device shows, and what it means.
 ghost use Rattle.std.specs.Prelude.{◌≡◌};
+ghost use Rattle.protocol.specs.Tables.{allowed};
 ghost use Rattle.device.specs.Meaning.{Hears, Lawful, Meaning};
+
+use protocol::ANSWERS;
 
 pub trait Device {
     ghost meaning: { Self → Meaning };
@@ -23,4 +26,12 @@ pub trait Device {
     // Sends a letter: one declared answer, or 255 and the device is jammed.
     fn ask(&mut self, letter: u8) -> u8
         ensures { Hears (meaning self.old) letter result (meaning self.new) };
+
+    // Whether the letter has an answer where the device stands.
+    final fn allows(&self, letter: u8) -> bool
+        ensures { result ≡ allowed (meaning self.now).table (meaning self.now).station letter }
+    {
+        let station = self.station();
+        (0..ANSWERS).any(|answer| self.edge(station, letter, answer).is_some())
+    }
 }

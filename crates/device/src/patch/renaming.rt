@@ -1,6 +1,5 @@
 // The patch as a device: a letter that is allowed goes down renamed, any other stays here and jams the patch.
 ghost use Rattle.std.specs.Prelude.{◌≡◌, false};
-ghost use Rattle.protocol.specs.Tables.{allowed};
 ghost use Rattle.device.specs.Kept.{patch_lawful};
 ghost use Rattle.device.specs.Meaning.{Hears};
 ghost use Rattle.device.specs.Patch.{HeardBelow, passed, patch_meaning, patched};
@@ -9,7 +8,7 @@ use super::Patch;
 use crate::answers::REFUSED;
 use crate::device::Device;
 use crate::letter_map::LetterMap;
-use protocol::{ANSWERS, JAMMED};
+use protocol::JAMMED;
 
 impl<D: Device> Patch<D> {
     pub fn new(map: LetterMap, below: D) -> Patch<D>
@@ -47,19 +46,6 @@ impl<D: Device> Patch<D> {
         below
     }
 
-    // Whether the device below has an answer to the letter.
-    fn allows(&self, letter: u8) -> bool
-        ensures { result ≡ allowed (D.Device.meaning self.now.below).table (D.Device.meaning self.now.below).station letter }
-    {
-        let station = self.below.station();
-        for answer in 0..ANSWERS {
-            if let Some(_) = self.below.edge(station, letter, answer) {
-                return true;
-            }
-        }
-        false
-    }
-
     // The letter that goes down for this one; none where it stays here.
     fn passes(&self, letter: u8) -> Option<u8>
         ensures { result ≡ passed D.Device.meaning self.now letter }
@@ -67,10 +53,9 @@ impl<D: Device> Patch<D> {
         if self.stuck {
             return None;
         }
-        match self.map.down(letter) {
-            Some(below) if self.allows(below) => Some(below),
-            _ => None,
-        }
+        self.map
+            .down(letter)
+            .filter(|below| self.below.allows(*below))
     }
 }
 
