@@ -15,7 +15,7 @@ pub projector_ranged : Ranged projector_table
 projector_ranged = listed_ranged projector_edges refl
 
 pub projector_lawful : (p : Projector) → Lawful (projector_meaning p)
-projector_lawful p = record { ranged = projector_ranged; standing = p.standing; counted = p.counted }
+projector_lawful p = record { ranged = projector_ranged; standing = p.standing; counted = p.tally.counted }
 
 led_within : (e : Table) (o : Option ℕ) (s a t : ℕ) → Ranged e → led_by e s o a ≡ Some t → (s < 16) × (a < 4) × (t < 16)
 led_within e (Some k) s a t r q = let w = r s k a t q in (w.0, w.2, w.3)

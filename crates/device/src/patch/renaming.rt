@@ -8,6 +8,7 @@ use super::Patch;
 use crate::answers::REFUSED;
 use crate::device::Device;
 use crate::letter_map::LetterMap;
+use crate::tally::Tally;
 use protocol::JAMMED;
 
 impl<D: Device> Patch<D> {
@@ -19,9 +20,7 @@ impl<D: Device> Patch<D> {
             map,
             below,
             stuck: false,
-            heard: 0,
-            letter: 0,
-            answer: 0,
+            tally: Tally::new(0, 0),
         }
     }
 
@@ -39,9 +38,7 @@ impl<D: Device> Patch<D> {
             map: _,
             below,
             stuck: _,
-            heard: _,
-            letter: _,
-            answer: _,
+            tally: _,
         } = self;
         below
     }
@@ -62,7 +59,7 @@ impl<D: Device> Patch<D> {
 impl<D: Device> Device for Patch<D> {
     ghost meaning = { patch_meaning D.Device.meaning };
 
-    ghost lawful = { λ p. patch_lawful p.map p.stuck p.heard p.letter p.answer (D.Device.meaning p.below) (D.Device.lawful p.below) p.counted };
+    ghost lawful = { λ p. patch_lawful p.map p.stuck p.tally.heard p.tally.letter p.tally.answer (D.Device.meaning p.below) (D.Device.lawful p.below) p.tally.counted };
 
     fn edge(&self, station: u8, letter: u8, answer: u8) -> Option<u8> {
         match self.map.down(letter) {
@@ -80,7 +77,7 @@ impl<D: Device> Device for Patch<D> {
     }
 
     fn heard(&self) -> u32 {
-        self.heard
+        self.tally.heard()
     }
 
     fn ask(&mut self, letter: u8) -> u8
@@ -88,17 +85,15 @@ impl<D: Device> Device for Patch<D> {
         ensures map { self.new.map ≡ self.old.map }
         ensures below { HeardBelow D.Device.meaning (passed D.Device.meaning self.old letter) self.old.below result self.new.below }
     {
-        self.heard = self.heard.wrapping_add(1);
-        self.letter = letter;
         match self.passes(letter) {
             Some(below) => {
                 let answer = self.below.ask(below);
-                self.answer = answer;
+                self.tally.note(letter, answer);
                 answer
             }
             None => {
                 self.stuck = true;
-                self.answer = REFUSED;
+                self.tally.note(letter, REFUSED);
                 REFUSED
             }
         }

@@ -7,6 +7,7 @@ ghost use Rattle.device.specs.Kept.{projector_lawful};
 use super::Projector;
 use crate::answers::REFUSED;
 use crate::device::Device;
+use crate::tally::Tally;
 use protocol::{AWAY, JAMMED};
 
 // The letter that asks for the lamp's state, the one letter with several answers.
@@ -46,9 +47,7 @@ impl<'a> Projector<'a> {
         Projector {
             replies,
             station: AWAY,
-            heard: 0,
-            letter: 0,
-            answer: 0,
+            tally: Tally::new(0, 0),
         }
     }
 
@@ -98,7 +97,7 @@ impl Device for Projector<'_> {
     }
 
     fn heard(&self) -> u32 {
-        self.heard
+        self.tally.heard()
     }
 
     fn ask(&mut self, letter: u8) -> u8
@@ -108,9 +107,7 @@ impl Device for Projector<'_> {
     {
         let answer = self.answer_to(letter);
         self.station = arrival(self.station, letter, answer);
-        self.heard = self.heard.wrapping_add(1);
-        self.letter = letter;
-        self.answer = answer;
+        self.tally.note(letter, answer);
         answer
     }
 }
