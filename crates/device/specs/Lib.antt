@@ -4,6 +4,7 @@ pub mod Projector
 pub mod Letters
 pub mod LetterMap
 pub mod Patch
+pub mod Rings
 pub mod Trail
 pub mod Ports
 pub mod Built

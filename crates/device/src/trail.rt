@@ -2,7 +2,8 @@
 ghost use Rattle.std.specs.Prelude.{◌≡◌, [], ◌∷◌, ◌++◌, length};
 ghost use Rattle.std.specs.List.{slice_get};
 ghost use Rattle.device.specs.Meaning.{Hears};
-ghost use Rattle.device.specs.Trail.{last, trail_of};
+ghost use Rattle.device.specs.Rings.{last};
+ghost use Rattle.device.specs.Trail.{trail_of};
 
 use crate::device::Device;
 use crate::ring::{Pair, Ring};
