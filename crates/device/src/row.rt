@@ -35,8 +35,7 @@ impl<D> Row<D> {
     pub fn into_devices(self) -> Vec<D>
         ensures { result ≡ self.devices }
     {
-        let Row { devices } = self;
-        devices
+        self.devices
     }
 
     fn has(&self, port: u8) -> bool

@@ -49,8 +49,7 @@ impl<D> Trail<D> {
     pub fn into_below(self) -> D
         ensures { result ≡ self.below }
     {
-        let Trail { below, ring: _ } = self;
-        below
+        self.below
     }
 }
 

@@ -34,13 +34,7 @@ impl<D: Device> Patch<D> {
     pub fn into_below(self) -> D
         ensures { result ≡ self.below }
     {
-        let Patch {
-            map: _,
-            below,
-            stuck: _,
-            tally: _,
-        } = self;
-        below
+        self.below
     }
 
     // The letter that goes down for this one; none where it stays here.

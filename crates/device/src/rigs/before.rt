@@ -17,7 +17,8 @@ pub struct Before<D, R> {
 
 impl<D, R> Before<D, R> {
     pub fn new(first: D, rest: R) -> Before<D, R>
-        ensures { (result.first ≡ first) × (result.rest ≡ rest) }
+        ensures first { result.first ≡ first }
+        ensures rest { result.rest ≡ rest }
     {
         Before { first, rest }
     }
@@ -35,10 +36,10 @@ impl<D, R> Before<D, R> {
     }
 
     pub fn into_parts(self) -> (D, R)
-        ensures { (result.0 ≡ self.first) × (result.1 ≡ self.rest) }
+        ensures first { result.0 ≡ self.first }
+        ensures rest { result.1 ≡ self.rest }
     {
-        let Before { first, rest } = self;
-        (first, rest)
+        (self.first, self.rest)
     }
 }
 

@@ -29,8 +29,7 @@ impl<D> Single<D> {
     pub fn into_device(self) -> D
         ensures { result ≡ self.device }
     {
-        let Single { device } = self;
-        device
+        self.device
     }
 }
 
