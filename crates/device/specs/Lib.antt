@@ -8,5 +8,6 @@ pub mod Rings
 pub mod Trail
 pub mod Ports
 pub mod Built
+pub mod Parts
 pub mod Composed
 pub mod Stacked

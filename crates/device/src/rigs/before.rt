@@ -1,11 +1,12 @@
 // A device before a rig.
 ghost use Rattle.std.specs.Prelude.{◌≡◌};
 ghost use Rattle.device.specs.Built.{before_few, before_lawful, before_ports, before_some};
+ghost use Rattle.device.specs.Parts.{IsPart};
 
 use crate::answers::REFUSED;
 use crate::device::Device;
 use crate::rig::Rig;
-use crate::rigs::PORTS;
+use crate::rigs::{PORTS, UNHEARD};
 use protocol::JAMMED;
 
 // The device is port 0, and each port of the rig comes one later; a device behind the eighth is no port.
@@ -13,6 +14,22 @@ use protocol::JAMMED;
 pub struct Before<D, R> {
     first: D,
     rest: R,
+}
+
+// Whose a port is: the first device's, or the rest's at a port of its own.
+enum Part {
+    First,
+    Rest(u8),
+}
+
+fn part_of(port: u8) -> Option<Part>
+    ensures { IsPart port result }
+{
+    match port {
+        0 => Some(Part::First),
+        1..PORTS => Some(Part::Rest(port - 1)),
+        _ => None,
+    }
 }
 
 impl<D, R> Before<D, R> {
@@ -58,42 +75,33 @@ impl<D: Device, R: Rig> Rig for Before<D, R> {
     }
 
     fn edge(&self, port: u8, station: u8, letter: u8, answer: u8) -> Option<u8> {
-        if port == 0 {
-            self.first.edge(station, letter, answer)
-        } else if port < PORTS {
-            self.rest.edge(port - 1, station, letter, answer)
-        } else {
-            None
+        match part_of(port)? {
+            Part::First => self.first.edge(station, letter, answer),
+            Part::Rest(port) => self.rest.edge(port, station, letter, answer),
         }
     }
 
     fn station(&self, port: u8) -> u8 {
-        if port == 0 {
-            self.first.station()
-        } else if port < PORTS {
-            self.rest.station(port - 1)
-        } else {
-            JAMMED
+        match part_of(port) {
+            Some(Part::First) => self.first.station(),
+            Some(Part::Rest(port)) => self.rest.station(port),
+            None => JAMMED,
         }
     }
 
     fn heard(&self, port: u8) -> u32 {
-        if port == 0 {
-            self.first.heard()
-        } else if port < PORTS {
-            self.rest.heard(port - 1)
-        } else {
-            0
+        match part_of(port) {
+            Some(Part::First) => self.first.heard(),
+            Some(Part::Rest(port)) => self.rest.heard(port),
+            None => UNHEARD,
         }
     }
 
     fn ask(&mut self, port: u8, letter: u8) -> u8 {
-        if port == 0 {
-            self.first.ask(letter)
-        } else if port < PORTS {
-            self.rest.ask(port - 1, letter)
-        } else {
-            REFUSED
+        match part_of(port) {
+            Some(Part::First) => self.first.ask(letter),
+            Some(Part::Rest(port)) => self.rest.ask(port, letter),
+            None => REFUSED,
         }
     }
 }
