@@ -8,9 +8,6 @@ use protocol::ANSWERS;
 pub trait Device {
     ghost meaning: { Self → Meaning };
 
-    // What each device proves of its own meaning.
-    ghost lawful: { (d : Self) → Lawful (meaning d) };
-
     // Where an edge leads; none outside the ranges.
     fn edge(&self, station: u8, letter: u8, answer: u8) -> Option<u8>
         ensures { result ≡ (meaning self.now).table station letter answer };
@@ -26,6 +23,9 @@ pub trait Device {
     // Sends a letter: one declared answer, or 255 and the device is jammed.
     fn ask(&mut self, letter: u8) -> u8
         ensures { Hears (meaning self.old) letter result (meaning self.new) };
+
+    // What each device proves of its own meaning.
+    ghost lawful: { (d : Self) → Lawful (meaning d) };
 
     // Whether the letter has an answer where the device stands.
     final fn allows(&self, letter: u8) -> bool
