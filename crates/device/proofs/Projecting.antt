@@ -1,8 +1,8 @@
 -- The simulated projector hears as a device does.
-use Rattle.std.proofs.Common.{◌≡◌, ℕ, zero, suc, ◌+◌, ◌%◌, ◌^◌, ◌<◌, Bool, true, false, cond, eqb, List, [], ◌∷◌, length, is_some, unwrap_or, sym, refl, ap, ◌∙◌, subst, true≢false, lit<, arith}
+use Rattle.std.proofs.Common.{◌≡◌, ℕ, zero, suc, ◌+◌, ◌%◌, ◌^◌, ◌<◌, Bool, true, false, cond, eqb, List, is_some, unwrap_or, sym, refl, ap, subst, arith}
 use Rattle.protocol.specs.Lists.{Each}
 use Rattle.protocol.specs.Tables.{allowed}
-use Rattle.protocol.proofs.Tests.{cases, is_false, or_left, some_of}
+use Rattle.protocol.proofs.Tests.{cases, some_of}
 use Rattle.device.specs.declared.projector.Projector.{Projector}
 use Rattle.device.specs.Meaning.{Meaning, Hears}
 use Rattle.device.specs.Projector.{projector_edges, projector_table, projected, projector_meaning, replies_of, next_reply, answer_of, arrived}
@@ -10,10 +10,6 @@ use Rattle.protocol.proofs.Ranges.{each_led}
 use Rattle.device.specs.Kept.{projector_ranged}
 use Rattle.protocol.proofs.Answers.{allows}
 use Rattle.device.proofs.Hearing.{not_allowed, moves_to, jams_so}
-
-pub no_replies : (rs : List ℕ) → length rs ≡ 0 → rs ≡ []
-no_replies [] e = refl
-no_replies (r ∷ rs) e = absurd (omega (arith, e))
 
 -- where a letter is allowed, the lamp's has the answers 0 to 2 and any other has 0
 abbrev Answered : ℕ → ℕ → ℕ → ℕ → Type 0
@@ -28,20 +24,8 @@ lamp (suc (suc (suc r))) lt = absurd (omega arith)
 each_answered : Each (λ e. Answered e.from e.letter e.answer e.to) projector_edges
 each_answered = (λ r lt. refl, (λ r lt. refl, (λ r lt. refl, (lamp, (lamp, (lamp, (λ r lt. refl, (λ r lt. refl, (λ r lt. refl, (λ r lt. refl, tt))))))))))
 
-either_way : (b : Bool) (n : ℕ) → n ≡ cond b n n
-either_way true n = refl
-either_way false n = refl
-
 answered : (s l : ℕ) → allowed projector_table s l ≡ true → (r : ℕ) → r < 3 → is_some (projector_table s l (cond (eqb l 3) r 0)) ≡ true
 answered s l h = let w = allows projector_table s l h in each_led Answered projector_edges each_answered s l w.0 w.1 w.2
-
--- so the answer 0 tells
-pub first_answer : (s l : ℕ) → is_some (projector_table s l 0) ≡ allowed projector_table s l
-first_answer s l = by (allowed projector_table s l) refl
-  where
-    by : (b : Bool) → allowed projector_table s l ≡ b → is_some (projector_table s l 0) ≡ b
-    by true e = ap (λ n. is_some (projector_table s l n)) (either_way (eqb l 3) 0) ∙ answered s l e 0 (lit< tt)
-    by false e = is_false _ (λ h. true≢false (sym (or_left _ h) ∙ e))
 
 reply_small : (rs : List ℕ) → next_reply rs < 3
 reply_small rs = omega arith

@@ -39,7 +39,7 @@ impl<D> Trail<D> {
         self.ring.pair(place)
     }
 
-    // The device below.
+    // The device below. (A trait of layers would have both of these bodies in each layer all the same.)
     pub fn below(&self) -> &D
         ensures { result.now ≡ self.now.below }
     {

@@ -90,10 +90,9 @@ impl Dimmer {
     fn reply(&self, letter: u8) -> u8
         ensures { result ≡ reply_of self.now.station self.now.level letter }
     {
-        if self.station == DARK && letter == BRIGHTER && self.level < FULL - 1 {
-            STAYS_DARK
-        } else {
-            DONE
+        match (self.station, letter) {
+            (DARK, BRIGHTER) if self.level < FULL - 1 => STAYS_DARK,
+            _ => DONE,
         }
     }
 }

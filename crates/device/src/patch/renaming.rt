@@ -24,7 +24,7 @@ impl<D: Device> Patch<D> {
         }
     }
 
-    // The device below.
+    // The device below. (See Trail.)
     pub fn below(&self) -> &D
         ensures { result.now ≡ self.now.below }
     {

@@ -16,7 +16,7 @@ pub struct Before<D, R> {
     rest: R,
 }
 
-// Whose a port is: the first device's, or the rest's at a port of its own.
+// Whose a port is: the first device's, or the rest's, at a port of its own.
 enum Part {
     First,
     Rest(u8),
@@ -70,8 +70,7 @@ impl<D: Device, R: Rig> Rig for Before<D, R> {
     ghost few = { λ r. before_few (D.Device.meaning r.first) (R.Rig.ports r.rest) };
 
     fn count(&self) -> u8 {
-        let rest = self.rest.count();
-        if rest < PORTS { rest + 1 } else { PORTS }
+        (self.rest.count() + 1).min(PORTS)
     }
 
     fn edge(&self, port: u8, station: u8, letter: u8, answer: u8) -> Option<u8> {
