@@ -1,5 +1,4 @@
 // A map that renames letters.
-
 ghost use Rattle.device.specs.Letters.{AreLetters};
 
 // By letter, the letter below.

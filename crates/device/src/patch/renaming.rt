@@ -56,10 +56,8 @@ impl<D: Device> Device for Patch<D> {
     ghost lawful = { λ p. patch_lawful p.map p.stuck p.tally.heard p.tally.letter p.tally.answer (D.Device.meaning p.below) (D.Device.lawful p.below) p.tally.counted };
 
     fn edge(&self, station: u8, letter: u8, answer: u8) -> Option<u8> {
-        match self.map.down(letter) {
-            Some(below) => self.below.edge(station, below, answer),
-            None => None,
-        }
+        let below = self.map.down(letter)?;
+        self.below.edge(station, below, answer)
     }
 
     fn station(&self) -> u8 {
