@@ -1,5 +1,5 @@
 -- A map of letters is what its bytes say.
-use Rattle.std.proofs.Common.{◌≡◌, ℕ, ◌<◌, true, cond, List, map, length, Ok, Err, None, Some, Option, IfSome, refl, sym, ap, ◌∙◌, subst}
+use Rattle.std.proofs.Common.{◌≡◌, ℕ, ◌<◌, true, cond, List, map, length, Ok, Err, None, Some, Option, IfSome, refl, sym, ap, ◌∙◌, subst, Bool, false, ◌&&◌, nat_lt, slice_index, slice_index_or}
 use Rattle.std.specs.Array.{IsMapOf}
 use Rattle.std.specs.Fn.{Called}
 use Rattle.std.specs.List.{list_all}
@@ -8,9 +8,9 @@ use Rattle.std.proofs.Math.Bridge.{le_prop}
 use denote.Param.Members.{Mut}
 use Rattle.faults.specs.declared.causes.StageCause.TheVariants.{BadMap}
 use Rattle.faults.specs.Numbers.{nowhere, stage_fault}
-use Rattle.protocol.proofs.Tests.{and_true, equal_numbers}
+use Rattle.protocol.proofs.Tests.{and_true, equal_numbers, less}
 use Rattle.device.specs.declared.letter_map.LetterMap.{LetterMap}
-use Rattle.device.specs.Letters.{AreLetters, letter_of, letter_or_none}
+use Rattle.device.specs.Letters.{AreLetters, below_in, letter_of, letter_or_none}
 use Rattle.device.specs.LetterMap.{letters_in, map_from}
 
 -- an array's `map`, with a function that keeps no state, is a list's
@@ -26,6 +26,13 @@ pub read : (bs : List ℕ) (m : LetterMap) → length bs ≡ 16 → list_all let
 read bs m long fit e =
     ap Ok (same_map m (letters_in bs) e)
     ∙ ap (λ b. cond b (Ok (letters_in bs)) (Err (stage_fault BadMap nowhere))) (sym (and_true (equal_numbers long) fit))
+
+pub below_read : (ls : List (Option ℕ)) (bs : List ℕ) → length bs ≡ 16 → ls ≡ map letter_of bs → (l : ℕ) → cond (nat_lt l 16) (slice_index_or ls l None) None ≡ below_in bs l
+below_read ls bs long e l = ap (λ (xs : List (Option ℕ)). cond (nat_lt l 16) (slice_index_or xs l None) None) e ∙ by (nat_lt l 16) refl
+  where
+    by : (b : Bool) → nat_lt l 16 ≡ b → cond b (slice_index_or (map letter_of bs) l None) None ≡ cond (b && nat_lt (slice_index bs l) 16) (Some (slice_index bs l)) None
+    by true h = get_or-map letter_of bs l 0 None (subst (λ n. l < n) (sym long) (less l 16 h))
+    by false h = refl
 
 pub small : (o : Option ℕ) → ((l : ℕ) → o ≡ Some l → l < 16) → IfSome o (λ l. l < 16)
 small (Some l) h = h l refl

@@ -1,10 +1,14 @@
 -- The bytes of a map: letters, or 255 for none.
-use Rattle.std.specs.Prelude.{◌≡◌, ℕ, zero, suc, ◌<◌, Bool, cond, ◌||◌, List, [], ◌∷◌, map, Some, None, Option, ◌==◌, nat_lt, slice_index_or}
+use Rattle.std.specs.Prelude.{◌≡◌, ℕ, zero, suc, ◌<◌, Bool, cond, ◌&&◌, ◌||◌, List, [], ◌∷◌, map, Some, None, Option, ◌==◌, nat_lt, slice_index, slice_index_or}
 use Rattle.std.proofs.Common.{subst}
 use Rattle.protocol.proofs.Tests.{less, none_some, taken}
 
 abbrev pub letter_or_none : ℕ → Bool
 letter_or_none b = nat_lt b 16 || b == 255
+
+-- the letter below a letter, as the bytes say
+abbrev pub below_in : List ℕ → ℕ → Option ℕ
+below_in bs l = cond (nat_lt l 16 && nat_lt (slice_index bs l) 16) (Some (slice_index bs l)) None
 
 abbrev pub letter_of : ℕ → Option ℕ
 letter_of b = cond (nat_lt b 16) (Some b) None

@@ -1,7 +1,7 @@
 // A map is read from its bytes, and then looked up.
-ghost use Rattle.std.specs.Prelude.{◌≡◌, ◌<◌, map, IfSome};
+ghost use Rattle.std.specs.Prelude.{◌≡◌, ℕ, ◌<◌, map, IfOk, IfSome};
 ghost use Rattle.std.specs.List.{list_all};
-ghost use Rattle.device.specs.Letters.{letter_of, letter_or_none};
+ghost use Rattle.device.specs.Letters.{below_in, letter_of, letter_or_none};
 ghost use Rattle.device.specs.LetterMap.{down, map_from};
 
 use super::LetterMap;
@@ -38,7 +38,8 @@ fn letters(bytes: [u8; 16]) -> [Option<u8>; 16]
 impl LetterMap {
     // Sixteen bytes, each a letter or the mark for none.
     pub fn new(bytes: &[u8]) -> Result<LetterMap, Fault>
-        ensures { result ≡ map_from bytes.now }
+        ensures map { result ≡ map_from bytes.now }
+        ensures below { IfOk result (λ read. (l : ℕ) → down read l ≡ below_in bytes.now l) }
     {
         match <[u8; 16]>::try_from(bytes) {
             Ok(bytes) if fits(&bytes) => Ok(LetterMap {
