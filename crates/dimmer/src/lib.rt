@@ -7,7 +7,7 @@ ghost use Rattle.dimmer.specs.Lamp.{dimmer_ranged, dimmer_rule, dimmer_table, le
 use device::{Device, Tally};
 use protocol::{AWAY, JAMMED};
 
-// Stations besides away and jammed.
+// Stations besides away and jammed. They, letters and answers are numbers, as the formats have them and `ask` takes them.
 pub const DARK: u8 = 1;
 
 pub const LIT: u8 = 2;
