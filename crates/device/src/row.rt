@@ -1,5 +1,5 @@
 // Devices of one type in a row.
-ghost use Rattle.std.specs.Prelude.{◌≡◌, ◌<◌, map, take, vec_len, MatchResult};
+ghost use Rattle.std.specs.Prelude.{◌≡◌, ◌<◌, map, take, vec_len, IfErr, IfOk};
 ghost use Rattle.std.specs.List.{slice_get};
 ghost use Rattle.std.specs.Option.{option_copied};
 ghost use Rattle.device.specs.Built.{each_map, row_few, row_lawful, row_ports, row_some, some_map};
@@ -20,7 +20,9 @@ pub struct Row<D> {
 impl<D> Row<D> {
     // Gives the devices back where there are none.
     pub fn new(devices: Vec<D>) -> Result<Row<D>, Vec<D>>
-        ensures { MatchResult result (λ row. row.devices ≡ devices) (λ back. (back ≡ devices) × (vec_len back ≡ 0)) }
+        ensures row { IfOk result (λ row. row.devices ≡ devices) }
+        ensures back { IfErr result (λ back. back ≡ devices) }
+        ensures none { IfErr result (λ back. vec_len back ≡ 0) }
     {
         if devices.is_empty() {
             return Err(devices);
