@@ -1,5 +1,5 @@
-mod Alls
 pub mod Hearing
+mod Lettering
 mod Projecting
 mod Renaming
 mod Turning

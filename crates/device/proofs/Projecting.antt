@@ -1,5 +1,5 @@
 -- The simulated projector hears as a device does.
-use Rattle.std.proofs.Common.{◌≡◌, ℕ, zero, suc, ◌+◌, ◌%◌, ◌^◌, ◌<◌, Bool, true, false, cond, eqb, List, [], ◌∷◌, length, is_some, unwrap_or, sym, refl, ap, subst, arith}
+use Rattle.std.proofs.Common.{◌≡◌, ℕ, zero, suc, ◌+◌, ◌%◌, ◌^◌, ◌<◌, Bool, true, false, cond, eqb, List, is_some, unwrap_or, sym, refl, ap, subst, arith}
 use Rattle.protocol.specs.Lists.{Each}
 use Rattle.protocol.specs.Tables.{allowed}
 use Rattle.protocol.proofs.Tests.{cases, some_of}
@@ -10,10 +10,6 @@ use Rattle.protocol.proofs.Ranges.{each_led}
 use Rattle.device.specs.Kept.{projector_ranged}
 use Rattle.protocol.proofs.Answers.{allows}
 use Rattle.device.proofs.Hearing.{not_allowed, moves_to, jams_so}
-
-pub no_replies : (rs : List ℕ) → length rs ≡ 0 → rs ≡ []
-no_replies [] e = refl
-no_replies (r ∷ rs) e = absurd (omega (arith, e))
 
 -- where a letter is allowed, the lamp's has the answers 0 to 2 and any other has 0
 abbrev Answered : ℕ → ℕ → ℕ → ℕ → Type 0
@@ -40,24 +36,24 @@ nowhere s l = cases (projector_table s l 255)
     (λ t e. let lt : 255 < 4 = (projector_ranged s l 255 t e).2 in absurd (omega arith))
     (λ e. ap (λ o. unwrap_or o 16) e)
 
-hears : (p : Projector) (l : ℕ) → Hears (projector_meaning p) l (answer_of p l) (projected (arrived p.station l (answer_of p l)) ((p.heard + 1) % 2 ^ 32) l (answer_of p l))
+hears : (p : Projector) (l : ℕ) → Hears (projector_meaning p) l (answer_of p l) (projected (arrived p.station l (answer_of p l)) ((p.tally.heard + 1) % 2 ^ 32) l (answer_of p l))
 hears p l = by (allowed projector_table p.station l) refl
   where
     given : ℕ
     given = cond (eqb l 3) (next_reply (replies_of p)) 0
 
     by : (b : Bool) → allowed projector_table p.station l ≡ b →
-        Hears (projector_meaning p) l (cond b given 255) (projected (arrived p.station l (cond b given 255)) ((p.heard + 1) % 2 ^ 32) l (cond b given 255))
+        Hears (projector_meaning p) l (cond b given 255) (projected (arrived p.station l (cond b given 255)) ((p.tally.heard + 1) % 2 ^ 32) l (cond b given 255))
     by true e =
         let w = some_of (projector_table p.station l given) (answered p.station l e (next_reply (replies_of p)) (reply_small (replies_of p))) in
-        moves_to _ _ l given w.0 w.1 (ap (λ o. projected (unwrap_or o 16) ((p.heard + 1) % 2 ^ 32) l given) w.1)
+        moves_to _ _ l given w.0 w.1 (ap (λ o. projected (unwrap_or o 16) ((p.tally.heard + 1) % 2 ^ 32) l given) w.1)
     by false e = jams_so _ _ l 255 (not_allowed projector_table projector_ranged p.station l e) refl
-        (ap (λ t. projected t ((p.heard + 1) % 2 ^ 32) l 255) (nowhere p.station l))
+        (ap (λ t. projected t ((p.tally.heard + 1) % 2 ^ 32) l 255) (nowhere p.station l))
 
 pub projector_hears : (p : Projector) (m : Meaning) (l a s : ℕ) → m ≡ projector_meaning p → a ≡ answer_of p l → s ≡ arrived m.station l a →
     Hears (projector_meaning p) l a (projected s ((m.heard + 1) % 2 ^ 32) l a)
 projector_hears p m l a s q e t =
     subst (λ (n : Meaning). s ≡ arrived n.station l a → Hears (projector_meaning p) l a (projected s ((n.heard + 1) % 2 ^ 32) l a)) (sym q)
-    (λ w. subst (λ (v : ℕ). Hears (projector_meaning p) l a (projected v ((p.heard + 1) % 2 ^ 32) l a)) (sym w)
-    (subst (λ (v : ℕ). Hears (projector_meaning p) l v (projected (arrived p.station l v) ((p.heard + 1) % 2 ^ 32) l v)) (sym e) (hears p l)))
+    (λ w. subst (λ (v : ℕ). Hears (projector_meaning p) l a (projected v ((p.tally.heard + 1) % 2 ^ 32) l a)) (sym w)
+    (subst (λ (v : ℕ). Hears (projector_meaning p) l v (projected (arrived p.station l v) ((p.tally.heard + 1) % 2 ^ 32) l v)) (sym e) (hears p l)))
     t

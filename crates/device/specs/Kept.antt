@@ -1,5 +1,5 @@
 -- The proofs that each device keeps what every device keeps.
-use Rattle.std.specs.Prelude.{◌≡◌, ℕ, ◌^◌, ◌<◌, Bool, true, false, cond, ◌&&◌, Some, None, Option, nat_lt, slice_index, refl}
+use Rattle.std.specs.Prelude.{◌≡◌, ℕ, ◌^◌, ◌<◌, Bool, true, false, cond, Some, None, Option, nat_lt, slice_index_or, refl}
 use Rattle.std.proofs.Common.{lit<}
 use Rattle.protocol.specs.Tables.{Table, Ranged}
 use Rattle.protocol.proofs.Tests.{none_some, less}
@@ -15,7 +15,7 @@ pub projector_ranged : Ranged projector_table
 projector_ranged = listed_ranged projector_edges refl
 
 pub projector_lawful : (p : Projector) → Lawful (projector_meaning p)
-projector_lawful p = record { ranged = projector_ranged; standing = p.standing; counted = p.counted }
+projector_lawful p = record { ranged = projector_ranged; standing = p.standing; counted = p.tally.counted }
 
 led_within : (e : Table) (o : Option ℕ) (s a t : ℕ) → Ranged e → led_by e s o a ≡ Some t → (s < 16) × (a < 4) × (t < 16)
 led_within e (Some k) s a t r q = let w = r s k a t q in (w.0, w.2, w.3)
@@ -25,7 +25,7 @@ led_within e None s a t r q = absurd (none_some q)
 known : (map : LetterMap) (e : Table) (s l a t : ℕ) → renamed map e s l a ≡ Some t → l < 16
 known map e s l a t q = by (nat_lt l 16) refl q
   where
-    by : (b : Bool) → nat_lt l 16 ≡ b → led_by e s (cond (b && nat_lt (slice_index map.letters l) 16) (Some (slice_index map.letters l)) None) a ≡ Some t → l < 16
+    by : (b : Bool) → nat_lt l 16 ≡ b → led_by e s (cond b (slice_index_or map.letters l None) None) a ≡ Some t → l < 16
     by true h p = less l 16 h
     by false h p = absurd (none_some p)
 

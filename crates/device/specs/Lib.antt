@@ -1,10 +1,13 @@
 pub mod Meaning
 pub mod Kept
 pub mod Projector
+pub mod Letters
 pub mod LetterMap
 pub mod Patch
+pub mod Rings
 pub mod Trail
 pub mod Ports
 pub mod Built
+pub mod Parts
 pub mod Composed
 pub mod Stacked

@@ -28,7 +28,7 @@ patched map stuck h l a m = record {
 }
 
 abbrev pub patch_meaning : {D : Type 0} → (D → Meaning) → Patch D → Meaning
-patch_meaning meaning p = patched p.map p.stuck p.heard p.letter p.answer (meaning p.below)
+patch_meaning meaning p = patched p.map p.stuck p.tally.heard p.tally.letter p.tally.answer (meaning p.below)
 
 -- the letter that goes down; none where it is not allowed
 abbrev pub passes : LetterMap → Bool → Meaning → ℕ → Option ℕ

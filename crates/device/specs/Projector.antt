@@ -39,7 +39,7 @@ projected s h l a = record {
 }
 
 abbrev pub projector_meaning : Projector → Meaning
-projector_meaning p = projected p.station p.heard p.letter p.answer
+projector_meaning p = projected p.station p.tally.heard p.tally.letter p.tally.answer
 
 abbrev pub replies_of : Projector → List ℕ
 replies_of p = p.replies.now

@@ -1,12 +1,12 @@
 // What every device shows, and what it means.
 ghost use Rattle.std.specs.Prelude.{◌≡◌};
+ghost use Rattle.protocol.specs.Tables.{allowed};
 ghost use Rattle.device.specs.Meaning.{Hears, Lawful, Meaning};
+
+use protocol::ANSWERS;
 
 pub trait Device {
     ghost meaning: { Self → Meaning };
-
-    // What each device proves of its own meaning.
-    ghost lawful: { (d : Self) → Lawful (meaning d) };
 
     // Where an edge leads; none outside the ranges.
     fn edge(&self, station: u8, letter: u8, answer: u8) -> Option<u8>
@@ -23,4 +23,15 @@ pub trait Device {
     // Sends a letter: one declared answer, or 255 and the device is jammed.
     fn ask(&mut self, letter: u8) -> u8
         ensures { Hears (meaning self.old) letter result (meaning self.new) };
+
+    // What each device proves of its own meaning.
+    ghost lawful: { (d : Self) → Lawful (meaning d) };
+
+    // Whether the letter has an answer where the device stands.
+    final fn allows(&self, letter: u8) -> bool
+        ensures { result ≡ allowed (meaning self.now).table (meaning self.now).station letter }
+    {
+        let station = self.station();
+        (0..ANSWERS).any(|answer| self.edge(station, letter, answer).is_some())
+    }
 }

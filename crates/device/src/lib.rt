@@ -11,6 +11,7 @@ mod rig;
 mod rigs;
 mod ring;
 mod row;
+mod tally;
 #[cfg(test)]
 mod tests;
 mod trail;
@@ -25,4 +26,5 @@ pub use rig::Rig;
 pub use rigs::{Before, PORTS, Single};
 pub use ring::Pair;
 pub use row::Row;
+pub use tally::Tally;
 pub use trail::Trail;

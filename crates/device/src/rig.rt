@@ -7,13 +7,6 @@ ghost use Rattle.device.specs.Ports.{Ports, RigHears, edge_at, heard_at, station
 pub trait Rig {
     ghost ports: { Self → Ports };
 
-    // 1 to 8 ports, each of a lawful device.
-    ghost lawful: { (r : Self) → Each Lawful (ports r) };
-
-    ghost some: { (r : Self) → 0 < length (ports r) };
-
-    ghost few: { (r : Self) → length (ports r) ≤ 8 };
-
     fn count(&self) -> u8
         ensures { result ≡ length (ports self.now) };
 
@@ -28,4 +21,11 @@ pub trait Rig {
 
     fn ask(&mut self, port: u8, letter: u8) -> u8
         ensures { RigHears (ports self.old) port letter result (ports self.new) };
+
+    // 1 to 8 ports, each of a lawful device.
+    ghost lawful: { (r : Self) → Each Lawful (ports r) };
+
+    ghost some: { (r : Self) → 0 < length (ports r) };
+
+    ghost few: { (r : Self) → length (ports r) ≤ 8 };
 }

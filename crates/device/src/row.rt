@@ -1,11 +1,13 @@
 // Devices of one type in a row.
-ghost use Rattle.std.specs.Prelude.{◌≡◌, ◌<◌, ◌&&◌, map, vec_len, MatchResult, nat_lt};
+ghost use Rattle.std.specs.Prelude.{◌≡◌, ◌<◌, map, take, vec_len, IfErr, IfOk};
+ghost use Rattle.std.specs.List.{slice_get};
+ghost use Rattle.std.specs.Option.{option_copied};
 ghost use Rattle.device.specs.Built.{each_map, row_few, row_lawful, row_ports, row_some, some_map};
 
 use crate::answers::REFUSED;
 use crate::device::Device;
 use crate::rig::Rig;
-use crate::rigs::PORTS;
+use crate::rigs::{PORTS, UNHEARD};
 use protocol::JAMMED;
 
 // A device at least; the first eight are ports.
@@ -18,9 +20,11 @@ pub struct Row<D> {
 impl<D> Row<D> {
     // Gives the devices back where there are none.
     pub fn new(devices: Vec<D>) -> Result<Row<D>, Vec<D>>
-        ensures { MatchResult result (λ row. row.devices ≡ devices) (λ back. (back ≡ devices) × (vec_len back ≡ 0)) }
+        ensures row { IfOk result (λ row. row.devices ≡ devices) }
+        ensures back { IfErr result (λ back. back ≡ devices) }
+        ensures none { IfErr result (λ back. vec_len back ≡ 0) }
     {
-        if devices.len() == 0 {
+        if devices.is_empty() {
             return Err(devices);
         }
         Ok(Row { devices })
@@ -35,14 +39,18 @@ impl<D> Row<D> {
     pub fn into_devices(self) -> Vec<D>
         ensures { result ≡ self.devices }
     {
-        let Row { devices } = self;
-        devices
+        self.devices
     }
 
-    fn has(&self, port: u8) -> bool
-        ensures { result ≡ (nat_lt port 8 && nat_lt port (vec_len self.now.devices)) }
+    // The device at a port; none where it is missing.
+    fn at(&self, port: u8) -> Option<&D>
+        ensures { option_copied result ≡ slice_get (take 8 self.now.devices.items) port }
     {
-        port < PORTS && (port as usize) < self.devices.len()
+        if port < PORTS {
+            self.devices.get(port as usize)
+        } else {
+            None
+        }
     }
 }
 
@@ -56,43 +64,28 @@ impl<D: Device> Rig for Row<D> {
     ghost few = { λ r. row_few (map D.Device.meaning r.devices.items) };
 
     fn count(&self) -> u8 {
-        let count = self.devices.len();
-        if count < PORTS as usize {
-            count as u8
-        } else {
-            PORTS
-        }
+        self.devices.len().min(PORTS as usize) as u8
     }
 
     fn edge(&self, port: u8, station: u8, letter: u8, answer: u8) -> Option<u8> {
-        if self.has(port) {
-            self.devices[port as usize].edge(station, letter, answer)
-        } else {
-            None
-        }
+        self.at(port)?.edge(station, letter, answer)
     }
 
     fn station(&self, port: u8) -> u8 {
-        if self.has(port) {
-            self.devices[port as usize].station()
-        } else {
-            JAMMED
-        }
+        self.at(port).map_or(JAMMED, |device| device.station())
     }
 
     fn heard(&self, port: u8) -> u32 {
-        if self.has(port) {
-            self.devices[port as usize].heard()
-        } else {
-            0
-        }
+        self.at(port).map_or(UNHEARD, |device| device.heard())
     }
 
     fn ask(&mut self, port: u8, letter: u8) -> u8 {
-        if self.has(port) {
-            self.devices[port as usize].ask(letter)
-        } else {
-            REFUSED
+        if port >= PORTS {
+            return REFUSED;
+        }
+        match self.devices.get_mut(port as usize) {
+            Some(device) => device.ask(letter),
+            None => REFUSED,
         }
     }
 }

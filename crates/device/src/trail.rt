@@ -2,7 +2,8 @@
 ghost use Rattle.std.specs.Prelude.{◌≡◌, [], ◌∷◌, ◌++◌, length};
 ghost use Rattle.std.specs.List.{slice_get};
 ghost use Rattle.device.specs.Meaning.{Hears};
-ghost use Rattle.device.specs.Trail.{last, trail_of};
+ghost use Rattle.device.specs.Rings.{last};
+ghost use Rattle.device.specs.Trail.{trail_of};
 
 use crate::device::Device;
 use crate::ring::{Pair, Ring};
@@ -38,7 +39,7 @@ impl<D> Trail<D> {
         self.ring.pair(place)
     }
 
-    // The device below.
+    // The device below. (A trait of layers would have both of these bodies in each layer all the same.)
     pub fn below(&self) -> &D
         ensures { result.now ≡ self.now.below }
     {
@@ -48,8 +49,7 @@ impl<D> Trail<D> {
     pub fn into_below(self) -> D
         ensures { result ≡ self.below }
     {
-        let Trail { below, ring: _ } = self;
-        below
+        self.below
     }
 }
 

@@ -1,13 +1,13 @@
 // A lamp behind a dimmer: a small device, to be copied.
 #![tactic(auto)]
 
-ghost use Rattle.std.specs.Prelude.{◌≡◌, ◌^◌, ◌<◌, [], ◌∷◌};
+ghost use Rattle.std.specs.Prelude.{◌≡◌, ◌<◌, [], ◌∷◌};
 ghost use Rattle.dimmer.specs.Lamp.{dimmer_ranged, dimmer_rule, dimmer_table, level_after, reply_of};
 
-use device::Device;
+use device::{Device, Tally};
 use protocol::{AWAY, JAMMED};
 
-// Stations besides away and jammed.
+// Stations besides away and jammed. They, letters and answers are numbers, as the formats have them and `ask` takes them.
 pub const DARK: u8 = 1;
 
 pub const LIT: u8 = 2;
@@ -35,12 +35,9 @@ pub const NONE: u8 = 255;
 #[derive(Drop)]
 pub struct Dimmer {
     station: u8,
-    heard: u32,
-    letter: u8,
-    answer: u8,
+    tally: Tally,
     level: u8,
     ghost standing: { station < 17 },
-    ghost counted: { heard < 2 ^ 32 },
 }
 
 // Where an edge leads.
@@ -70,13 +67,15 @@ fn level_after(level: u8, letter: u8, answer: u8) -> u8
 
 impl Dimmer {
     pub fn new() -> Dimmer
-        ensures { (result.station ≡ 0) × ((result.heard ≡ 0) × ((result.letter ≡ 255) × ((result.answer ≡ 255) × (result.level ≡ 0)))) }
+        ensures away { result.station ≡ 0 }
+        ensures heard { result.tally.heard ≡ 0 }
+        ensures letter { result.tally.letter ≡ 255 }
+        ensures answer { result.tally.answer ≡ 255 }
+        ensures level { result.level ≡ 0 }
     {
         Dimmer {
             station: AWAY,
-            heard: 0,
-            letter: NONE,
-            answer: NONE,
+            tally: Tally::new(NONE, NONE),
             level: 0,
         }
     }
@@ -91,18 +90,17 @@ impl Dimmer {
     fn reply(&self, letter: u8) -> u8
         ensures { result ≡ reply_of self.now.station self.now.level letter }
     {
-        if self.station == DARK && letter == BRIGHTER && self.level < FULL - 1 {
-            STAYS_DARK
-        } else {
-            DONE
+        match (self.station, letter) {
+            (DARK, BRIGHTER) if self.level < FULL - 1 => STAYS_DARK,
+            _ => DONE,
         }
     }
 }
 
 impl Device for Dimmer {
-    ghost meaning = { λ d. record { table = dimmer_table; station = d.station; heard = d.heard; letter = d.letter; answer = d.answer; memory = d.level ∷ []; rule = dimmer_rule } };
+    ghost meaning = { λ d. record { table = dimmer_table; station = d.station; heard = d.tally.heard; letter = d.tally.letter; answer = d.tally.answer; memory = d.level ∷ []; rule = dimmer_rule } };
 
-    ghost lawful = { λ d. record { ranged = dimmer_ranged; standing = d.standing; counted = d.counted } };
+    ghost lawful = { λ d. record { ranged = dimmer_ranged; standing = d.standing; counted = d.tally.counted } };
 
     fn edge(&self, station: u8, letter: u8, answer: u8) -> Option<u8> {
         edge(station, letter, answer)
@@ -113,23 +111,21 @@ impl Device for Dimmer {
     }
 
     fn heard(&self) -> u32 {
-        self.heard
+        self.tally.heard()
     }
 
     fn ask(&mut self, letter: u8) -> u8 {
         let answer = self.reply(letter);
-        self.heard = self.heard.wrapping_add(1);
-        self.letter = letter;
         match edge(self.station, letter, answer) {
             Some(station) => {
                 self.station = station;
-                self.answer = answer;
                 self.level = level_after(self.level, letter, answer);
+                self.tally.note(letter, answer);
                 answer
             }
             None => {
                 self.station = JAMMED;
-                self.answer = NONE;
+                self.tally.note(letter, NONE);
                 NONE
             }
         }

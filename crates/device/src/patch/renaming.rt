@@ -1,6 +1,5 @@
 // The patch as a device: a letter that is allowed goes down renamed, any other stays here and jams the patch.
 ghost use Rattle.std.specs.Prelude.{◌≡◌, false};
-ghost use Rattle.protocol.specs.Tables.{allowed};
 ghost use Rattle.device.specs.Kept.{patch_lawful};
 ghost use Rattle.device.specs.Meaning.{Hears};
 ghost use Rattle.device.specs.Patch.{HeardBelow, passed, patch_meaning, patched};
@@ -9,7 +8,8 @@ use super::Patch;
 use crate::answers::REFUSED;
 use crate::device::Device;
 use crate::letter_map::LetterMap;
-use protocol::{ANSWERS, JAMMED};
+use crate::tally::Tally;
+use protocol::JAMMED;
 
 impl<D: Device> Patch<D> {
     pub fn new(map: LetterMap, below: D) -> Patch<D>
@@ -20,13 +20,11 @@ impl<D: Device> Patch<D> {
             map,
             below,
             stuck: false,
-            heard: 0,
-            letter: 0,
-            answer: 0,
+            tally: Tally::new(0, 0),
         }
     }
 
-    // The device below.
+    // The device below. (See Trail.)
     pub fn below(&self) -> &D
         ensures { result.now ≡ self.now.below }
     {
@@ -36,28 +34,7 @@ impl<D: Device> Patch<D> {
     pub fn into_below(self) -> D
         ensures { result ≡ self.below }
     {
-        let Patch {
-            map: _,
-            below,
-            stuck: _,
-            heard: _,
-            letter: _,
-            answer: _,
-        } = self;
-        below
-    }
-
-    // Whether the device below has an answer to the letter.
-    fn allows(&self, letter: u8) -> bool
-        ensures { result ≡ allowed (D.Device.meaning self.now.below).table (D.Device.meaning self.now.below).station letter }
-    {
-        let station = self.below.station();
-        for answer in 0..ANSWERS {
-            if let Some(_) = self.below.edge(station, letter, answer) {
-                return true;
-            }
-        }
-        false
+        self.below
     }
 
     // The letter that goes down for this one; none where it stays here.
@@ -67,23 +44,20 @@ impl<D: Device> Patch<D> {
         if self.stuck {
             return None;
         }
-        match self.map.down(letter) {
-            Some(below) if self.allows(below) => Some(below),
-            _ => None,
-        }
+        self.map
+            .down(letter)
+            .filter(|below| self.below.allows(*below))
     }
 }
 
 impl<D: Device> Device for Patch<D> {
     ghost meaning = { patch_meaning D.Device.meaning };
 
-    ghost lawful = { λ p. patch_lawful p.map p.stuck p.heard p.letter p.answer (D.Device.meaning p.below) (D.Device.lawful p.below) p.counted };
+    ghost lawful = { λ p. patch_lawful p.map p.stuck p.tally.heard p.tally.letter p.tally.answer (D.Device.meaning p.below) (D.Device.lawful p.below) p.tally.counted };
 
     fn edge(&self, station: u8, letter: u8, answer: u8) -> Option<u8> {
-        match self.map.down(letter) {
-            Some(below) => self.below.edge(station, below, answer),
-            None => None,
-        }
+        let below = self.map.down(letter)?;
+        self.below.edge(station, below, answer)
     }
 
     fn station(&self) -> u8 {
@@ -95,7 +69,7 @@ impl<D: Device> Device for Patch<D> {
     }
 
     fn heard(&self) -> u32 {
-        self.heard
+        self.tally.heard()
     }
 
     fn ask(&mut self, letter: u8) -> u8
@@ -103,17 +77,15 @@ impl<D: Device> Device for Patch<D> {
         ensures map { self.new.map ≡ self.old.map }
         ensures below { HeardBelow D.Device.meaning (passed D.Device.meaning self.old letter) self.old.below result self.new.below }
     {
-        self.heard = self.heard.wrapping_add(1);
-        self.letter = letter;
         match self.passes(letter) {
             Some(below) => {
                 let answer = self.below.ask(below);
-                self.answer = answer;
+                self.tally.note(letter, answer);
                 answer
             }
             None => {
                 self.stuck = true;
-                self.answer = REFUSED;
+                self.tally.note(letter, REFUSED);
                 REFUSED
             }
         }

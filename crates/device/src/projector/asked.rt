@@ -1,6 +1,5 @@
 // The simulated projector as a device: where its edges lead, and what it answers.
 ghost use Rattle.std.specs.Prelude.{◌≡◌, ◌<◌, drop};
-ghost use Rattle.protocol.specs.Tables.{allowed};
 ghost use Rattle.device.specs.Meaning.{Hears};
 ghost use Rattle.device.specs.Projector.{answer_of, arrived, next_reply, projected, projector_meaning, projector_table, replies_after, replies_of};
 ghost use Rattle.device.specs.Kept.{projector_lawful};
@@ -8,6 +7,7 @@ ghost use Rattle.device.specs.Kept.{projector_lawful};
 use super::Projector;
 use crate::answers::REFUSED;
 use crate::device::Device;
+use crate::tally::Tally;
 use protocol::{AWAY, JAMMED};
 
 // The letter that asks for the lamp's state, the one letter with several answers.
@@ -39,16 +39,6 @@ fn arrival(station: u8, letter: u8, answer: u8) -> u8
     successor(station, letter, answer).unwrap_or(JAMMED)
 }
 
-// Whether the letter has an answer at the station.
-fn allows(station: u8, letter: u8) -> bool
-    ensures { result ≡ allowed projector_table station letter }
-{
-    successor(station, letter, 0).is_some()
-        || successor(station, letter, 1).is_some()
-        || successor(station, letter, 2).is_some()
-        || successor(station, letter, 3).is_some()
-}
-
 impl<'a> Projector<'a> {
     pub fn new(replies: &'a [u8]) -> Projector<'a>
         ensures first { projector_meaning result ≡ projected 0 0 0 0 }
@@ -57,9 +47,7 @@ impl<'a> Projector<'a> {
         Projector {
             replies,
             station: AWAY,
-            heard: 0,
-            letter: 0,
-            answer: 0,
+            tally: Tally::new(0, 0),
         }
     }
 
@@ -84,7 +72,8 @@ impl<'a> Projector<'a> {
         ensures left { replies_of self.new ≡ replies_after self.old letter }
         ensures same { projector_meaning self.new ≡ projector_meaning self.old }
     {
-        if !allows(self.station, letter) {
+        // each letter that is allowed has the answer 0, among others
+        if successor(self.station, letter, 0).is_none() {
             REFUSED
         } else if letter == LAMP {
             self.next_reply()
@@ -108,7 +97,7 @@ impl Device for Projector<'_> {
     }
 
     fn heard(&self) -> u32 {
-        self.heard
+        self.tally.heard()
     }
 
     fn ask(&mut self, letter: u8) -> u8
@@ -118,9 +107,7 @@ impl Device for Projector<'_> {
     {
         let answer = self.answer_to(letter);
         self.station = arrival(self.station, letter, answer);
-        self.heard = self.heard.wrapping_add(1);
-        self.letter = letter;
-        self.answer = answer;
+        self.tally.note(letter, answer);
         answer
     }
 }

@@ -1,11 +1,12 @@
 // A device before a rig.
 ghost use Rattle.std.specs.Prelude.{◌≡◌};
 ghost use Rattle.device.specs.Built.{before_few, before_lawful, before_ports, before_some};
+ghost use Rattle.device.specs.Parts.{IsPart};
 
 use crate::answers::REFUSED;
 use crate::device::Device;
 use crate::rig::Rig;
-use crate::rigs::PORTS;
+use crate::rigs::{PORTS, UNHEARD};
 use protocol::JAMMED;
 
 // The device is port 0, and each port of the rig comes one later; a device behind the eighth is no port.
@@ -15,9 +16,26 @@ pub struct Before<D, R> {
     rest: R,
 }
 
+// Whose a port is: the first device's, or the rest's, at a port of its own.
+enum Part {
+    First,
+    Rest(u8),
+}
+
+fn part_of(port: u8) -> Option<Part>
+    ensures { IsPart port result }
+{
+    match port {
+        0 => Some(Part::First),
+        1..PORTS => Some(Part::Rest(port - 1)),
+        _ => None,
+    }
+}
+
 impl<D, R> Before<D, R> {
     pub fn new(first: D, rest: R) -> Before<D, R>
-        ensures { (result.first ≡ first) × (result.rest ≡ rest) }
+        ensures first { result.first ≡ first }
+        ensures rest { result.rest ≡ rest }
     {
         Before { first, rest }
     }
@@ -35,10 +53,10 @@ impl<D, R> Before<D, R> {
     }
 
     pub fn into_parts(self) -> (D, R)
-        ensures { (result.0 ≡ self.first) × (result.1 ≡ self.rest) }
+        ensures first { result.0 ≡ self.first }
+        ensures rest { result.1 ≡ self.rest }
     {
-        let Before { first, rest } = self;
-        (first, rest)
+        (self.first, self.rest)
     }
 }
 
@@ -52,47 +70,37 @@ impl<D: Device, R: Rig> Rig for Before<D, R> {
     ghost few = { λ r. before_few (D.Device.meaning r.first) (R.Rig.ports r.rest) };
 
     fn count(&self) -> u8 {
-        let rest = self.rest.count();
-        if rest < PORTS { rest + 1 } else { PORTS }
+        (self.rest.count() + 1).min(PORTS)
     }
 
     fn edge(&self, port: u8, station: u8, letter: u8, answer: u8) -> Option<u8> {
-        if port == 0 {
-            self.first.edge(station, letter, answer)
-        } else if port < PORTS {
-            self.rest.edge(port - 1, station, letter, answer)
-        } else {
-            None
+        match part_of(port)? {
+            Part::First => self.first.edge(station, letter, answer),
+            Part::Rest(port) => self.rest.edge(port, station, letter, answer),
         }
     }
 
     fn station(&self, port: u8) -> u8 {
-        if port == 0 {
-            self.first.station()
-        } else if port < PORTS {
-            self.rest.station(port - 1)
-        } else {
-            JAMMED
+        match part_of(port) {
+            Some(Part::First) => self.first.station(),
+            Some(Part::Rest(port)) => self.rest.station(port),
+            None => JAMMED,
         }
     }
 
     fn heard(&self, port: u8) -> u32 {
-        if port == 0 {
-            self.first.heard()
-        } else if port < PORTS {
-            self.rest.heard(port - 1)
-        } else {
-            0
+        match part_of(port) {
+            Some(Part::First) => self.first.heard(),
+            Some(Part::Rest(port)) => self.rest.heard(port),
+            None => UNHEARD,
         }
     }
 
     fn ask(&mut self, port: u8, letter: u8) -> u8 {
-        if port == 0 {
-            self.first.ask(letter)
-        } else if port < PORTS {
-            self.rest.ask(port - 1, letter)
-        } else {
-            REFUSED
+        match part_of(port) {
+            Some(Part::First) => self.first.ask(letter),
+            Some(Part::Rest(port)) => self.rest.ask(port, letter),
+            None => REFUSED,
         }
     }
 }

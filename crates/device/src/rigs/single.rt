@@ -1,10 +1,13 @@
 // One device as a rig.
-ghost use Rattle.std.specs.Prelude.{◌≡◌};
+ghost use Rattle.std.specs.Prelude.{◌≡◌, [], ◌∷◌};
+ghost use Rattle.std.specs.List.{slice_get};
+ghost use Rattle.std.specs.Option.{option_copied};
 ghost use Rattle.device.specs.Built.{single_few, single_lawful, single_ports, single_some};
 
 use crate::answers::REFUSED;
 use crate::device::Device;
 use crate::rig::Rig;
+use crate::rigs::UNHEARD;
 use protocol::JAMMED;
 
 // Its one port is 0.
@@ -26,11 +29,18 @@ impl<D> Single<D> {
         &self.device
     }
 
+    // The device at a port; none where it is missing. (What a row looks up by its own `at` reads the same, one line each: a function
+    // for both would be longer.)
+    fn at(&self, port: u8) -> Option<&D>
+        ensures { option_copied result ≡ slice_get (self.now.device ∷ []) port }
+    {
+        (port == 0).then_some(&self.device)
+    }
+
     pub fn into_device(self) -> D
         ensures { result ≡ self.device }
     {
-        let Single { device } = self;
-        device
+        self.device
     }
 }
 
@@ -48,30 +58,21 @@ impl<D: Device> Rig for Single<D> {
     }
 
     fn edge(&self, port: u8, station: u8, letter: u8, answer: u8) -> Option<u8> {
-        if port == 0 {
-            self.device.edge(station, letter, answer)
-        } else {
-            None
-        }
+        self.at(port)?.edge(station, letter, answer)
     }
 
     fn station(&self, port: u8) -> u8 {
-        if port == 0 {
-            self.device.station()
-        } else {
-            JAMMED
-        }
+        self.at(port).map_or(JAMMED, |device| device.station())
     }
 
     fn heard(&self, port: u8) -> u32 {
-        if port == 0 { self.device.heard() } else { 0 }
+        self.at(port).map_or(UNHEARD, |device| device.heard())
     }
 
     fn ask(&mut self, port: u8, letter: u8) -> u8 {
-        if port == 0 {
-            self.device.ask(letter)
-        } else {
-            REFUSED
+        match port {
+            0 => self.device.ask(letter),
+            _ => REFUSED,
         }
     }
 }

@@ -4,7 +4,11 @@ use Rattle.dimmer.proofs.Replying.{not_allowed}
 use Rattle.dimmer.proofs.DimmerDevice.ask.Goals as goal
 
 pub returns-in-Some : goal.returns-in-Some
-returns-in-Some c = rw c.level_after-self.ensures (moves c.reply-answer.result c.in-Some.station (sym c.in-Some.ensures))
+returns-in-Some c =
+    let w = c.note.ensures in
+    rw (c.level_after-self.ensures, w.heard, w.letter, w.answer) (moves c.reply-answer.result c.in-Some.station (sym c.in-Some.ensures))
 
 pub returns-in-None : goal.returns-in-None
-returns-in-None c = jams (not_allowed c.args.self.now.station c.args.self.now.level c.args.letter c.reply-answer.result c.reply-answer.ensures c.in-None.ensures)
+returns-in-None c =
+    let w = c.note-in-None.ensures in
+    rw (w.heard, w.letter, w.answer) (jams (not_allowed c.args.self.now.station c.args.self.now.level c.args.letter c.reply-answer.result c.reply-answer.ensures c.in-None.ensures))

@@ -1,17 +1,16 @@
-use Rattle.std.proofs.Common.{ℕ, ◌+◌, ◌%◌, ◌<◌, ◌≤◌, cond, length, get_or, Some, sym, ap, ◌∙◌, arith}
-use Rattle.std.proofs.lemmas.Option.{slice_get_past}
-use Rattle.device.specs.Trail.{pairs_in}
-use Rattle.device.proofs.Turning.{shown_length, at_place}
+use Rattle.std.proofs.Common.{List, ap, ◌∙◌, arith}
+use Rattle.std.specs.List.{slice_get}
+use Rattle.device.specs.declared.ring.Pair.{Pair}
+use Rattle.device.proofs.Turning.{at_place, oldest_within, past_places}
 use Rattle.device.proofs.ring.Ring.pair.Goals as goal
 
-pub returns-then-place-count : goal.returns-then-place-count
-returns-then-place-count c =
-    let past : length (pairs_in c.args.self.now) ≤ c.args.place = omega (arith, c.count.ensures.value, c.if-place-count.true) in
-    sym (slice_get_past (pairs_in c.args.self.now) c.args.place past)
+pub returns-then-place-len : goal.returns-then-place-len
+returns-then-place-len c =
+    (cc c.deref.ensures.0)
+    ∙ at_place c.self.inside.oldest c.self.inside.pairs.items (oldest_within c.self.invariant) c.args.place (record { letter = 0; answer = 0 }) (omega arith)
+    ∙ ap (λ (xs : List Pair). slice_get xs c.args.place) c.self.view_is
 
-pub returns : goal.returns
-returns c =
-    let counted = shown_length c.args.self.now.full c.args.self.now.next c.args.self.now.pairs c.args.self.now.whole c.args.self.now.within in
-    let within : c.args.place < cond c.args.self.now.full 32 c.args.self.now.next = omega (arith, counted, c.count.ensures.value, c.if-place-count.false) in
-    ap (λ (k : ℕ). Some (get_or c.args.self.now.pairs ((k + c.args.place) % 32) (record { letter = 0; answer = 0 }))) c.oldest.ensures.value
-    ∙ sym (at_place c.args.self.now.full c.args.self.now.next c.args.place c.args.self.now.pairs _ c.args.self.now.whole c.args.self.now.within within)
+pub returns-else-place-len : goal.returns-else-place-len
+returns-else-place-len c =
+    past_places c.self.inside.oldest c.self.inside.pairs.items (oldest_within c.self.invariant) c.args.place (omega arith)
+    ∙ ap (λ (xs : List Pair). slice_get xs c.args.place) c.self.view_is

@@ -4,8 +4,8 @@ use Rattle.device.proofs.Asking.{asks_first}
 use Rattle.device.proofs.Numbered.{past_ports}
 use Rattle.device.proofs.rigs.single.SingleRig.ask.Goals as goal
 
-pub returns-then-port-eq0 : goal.returns-then-port-eq0
-returns-then-port-eq0 g c = asks_first c.args.port c.if-port-eq0.true c.ask.ensures
+pub returns-in-0 : goal.returns-in-0
+returns-in-0 g c = asks_first c.args.port c.in-0.is c.ask.ensures
 
-pub returns-else-port-eq0 : goal.returns-else-port-eq0
-returns-else-port-eq0 g c = past_ports (single_ports (g.D.Device.meaning c.args.self.now.device)) c.args.port c.args.letter (omega arith)
+pub returns-in_default : goal.returns-in_default
+returns-in_default g c = past_ports (single_ports (g.D.Device.meaning c.args.self.now.device)) c.args.port c.args.letter (omega arith)
