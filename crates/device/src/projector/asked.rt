@@ -13,6 +13,7 @@ use protocol::{AWAY, JAMMED};
 // The letter that asks for the lamp's state, the one letter with several answers.
 const LAMP: u8 = 3;
 
+// Row by row as the house book declares it, so by its numbers.
 fn successor(station: u8, letter: u8, answer: u8) -> Option<u8>
     ensures { result ≡ projector_table station letter answer }
 {
