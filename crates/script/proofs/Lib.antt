@@ -1,10 +1,10 @@
 pub mod Firsts
 pub mod Testing
 pub mod Joining
+pub mod Cutting
 pub mod Handing
 pub mod Looking
 pub mod Walking
-pub mod Lying
 pub mod Turns
 pub mod Headers
 pub mod Mains

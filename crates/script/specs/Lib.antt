@@ -1,6 +1,7 @@
 pub mod Pieces
 pub mod Commands
 pub mod Parts
+pub mod Levels
 pub mod Ends
 pub mod Bindings
 pub mod Walk

@@ -1,6 +1,6 @@
 // Key sets: by handle, eight stations. They go by value, so that each branch has its own copy.
 ghost use Rattle.std.specs.Prelude.{◌≡◌, slice_index, slice_set};
-ghost use Rattle.rules.specs.Lists.{distinct as distinct_in, same};
+ghost use Rattle.rules.specs.Lists.{distinct as distinct_in};
 ghost use Rattle.rules.specs.Script.{hand_over};
 
 pub type Keys = [u8; 8];
@@ -24,12 +24,6 @@ pub(crate) fn moved(mut keys: Keys, handle: u8, to: u8) -> Keys
         keys[handle as usize] = to;
     }
     keys
-}
-
-pub(crate) fn same_keys(a: Keys, b: Keys) -> bool
-    ensures { result ≡ same a b }
-{
-    a == b
 }
 
 // Whether no handle is bound twice.

@@ -4,9 +4,11 @@
 mod answers;
 mod bindings;
 mod block;
+mod blocks;
 mod command;
 mod header;
 mod keys;
+mod level;
 mod part;
 mod parts;
 mod reader;

@@ -5,9 +5,7 @@ ghost use Rattle.protocol.specs.Tables.{successors as successors_of};
 ghost use Rattle.rules.specs.Script.{in_range as in_range_of, table_at};
 ghost use Rattle.script.specs.Commands.{said};
 ghost use Rattle.script.specs.Parts.{scope_of};
-ghost use Rattle.script.specs.Pieces.{listed};
 
-use crate::answers::ByAnswer;
 use crate::bindings::all_fit;
 use crate::command::Command;
 use crate::keys::at;
@@ -32,15 +30,10 @@ pub struct Scope<'a> {
 impl Scope<'_> {
     // Where each answer to a letter leads the device of a handle.
     pub(crate) fn successors(&self, handle: u8, station: u8, letter: u8) -> Successors
-        ensures { listed result ≡ successors_of (table_at (scope_of self.now) handle) station letter }
+        ensures { result ≡ successors_of (table_at (scope_of self.now) handle) station letter }
     {
         let kind = at(&self.running.kinds, handle);
-        ByAnswer {
-            zero: self.book.edge(kind, station, letter, 0),
-            one: self.book.edge(kind, station, letter, 1),
-            two: self.book.edge(kind, station, letter, 2),
-            three: self.book.edge(kind, station, letter, 3),
-        }
+        [0, 1, 2, 3].map(|answer| self.book.edge(kind, station, letter, answer))
     }
 
     // A part that may be run.

@@ -1,7 +1,7 @@
 // Where the body of a part stands.
 ghost use Rattle.std.specs.Prelude.{◌≡◌};
 ghost use Rattle.script.specs.Parts.{Lies, shown};
-ghost use Rattle.script.specs.Pieces.{Within, piece};
+ghost use Rattle.script.specs.Pieces.{piece};
 
 use super::Part;
 use crate::block::Block;
@@ -11,8 +11,7 @@ impl Part {
     // The body, in the bytes of the script.
     pub(crate) fn body<'a>(&self, bytes: &'a [u8]) -> Block<'a>
         requires { Lies bytes.now self.now }
-        ensures value { piece result ≡ (shown bytes.now self.now).body }
-        ensures within { Within (piece result) }
+        ensures { piece result ≡ (shown bytes.now self.now).body }
     {
         let place = self.place + HEADER;
         let end = place + self.len;
