@@ -1,5 +1,5 @@
 -- The parts behind those already read.
-use Rattle.std.proofs.Common.{◌≡◌, ℕ, zero, suc, ◌+◌, ◌-◌, ◌<◌, ◌≤◌, List, [], ◌∷◌, ◌++◌, map, length, take, drop, Ok, Err, Result, sym, refl, ap, ◌∙◌, arith, length-drop, length-take, drop-drop}
+use Rattle.std.proofs.Common.{◌≡◌, ℕ, zero, suc, ◌+◌, ◌-◌, ◌<◌, ◌≤◌, List, [], ◌∷◌, ◌++◌, map, length, take, drop, Ok, Err, Result, sym, refl, ap, ◌∙◌, arith, length-append, length-drop, length-take, drop-drop}
 use lib.ListN.{length-map}
 use Rattle.std.proofs.lemmas.List.{drop_all, map_push}
 use Rattle.faults.specs.declared.fault.Fault.{Fault}
@@ -10,10 +10,9 @@ use Rattle.rules.specs.Script as rules
 use Rattle.rules.specs.Script.{read_part}
 use Rattle.rules.specs.Check.{check_body, check_parts}
 use Rattle.script.specs.declared.part.Part.{Part}
-use Rattle.script.specs.declared.parts.Parts.{Parts}
 use Rattle.script.specs.Parts.{shown, Lies}
 use Rattle.script.specs.Headers.{GivesPart}
-use Rattle.script.specs.Scripts.{over, next_part, shown_parts}
+use Rattle.script.specs.Scripts.{over, next_part}
 use Rattle.script.proofs.Turns.{stops, in_turn}
 
 -- One part
@@ -80,13 +79,12 @@ module _ (book : List Kind) (bs : List ℕ) where
   left_ends n ps at le = ap (λ (v : List ℕ). check_parts n book ps at v) (drop_all at bs le) ∙ none_left n ps at
 
   -- with the next part added to those so far
-  pub left_turn : (t t' : Parts) (at : ℕ) (p : Part) → at < length bs → t.count < 16 → t'.count ≡ t.count + 1 →
-      take t'.count t'.items ≡ take t.count t.items ++ (p ∷ []) → GivesPart bs at (Ok p) (next_part book (shown_parts bs t) at (drop at bs)) →
-      left (17 - t.count) (shown_parts bs t) at ≡ left (17 - t'.count) (shown_parts bs t') (at + (28 + p.len))
-  left_turn t t' at p lt few counted listed w =
-      let fuel : 17 - t.count ≡ suc (16 - t.count) = omega arith in
-      let less : 16 - t.count ≡ 17 - t'.count = omega arith in
-      let grown : shown_parts bs t ++ (shown bs p ∷ []) ≡ shown_parts bs t' = sym (map_push (shown bs) (take t.count t.items) p) ∙ ap (map (shown bs)) (sym listed) in
-      ap (λ (n : ℕ). left n (shown_parts bs t) at) fuel
-      ∙ left_on (16 - t.count) (shown_parts bs t) at p lt w.1 w.2 w.0
+  pub left_turn : (ps qs : List Part) (at : ℕ) (p : Part) → at < length bs → length ps < 16 → qs ≡ ps ++ (p ∷ []) → GivesPart bs at (Ok p) (next_part book (map (shown bs) ps) at (drop at bs)) →
+      left (17 - length ps) (map (shown bs) ps) at ≡ left (17 - length qs) (map (shown bs) qs) (at + (28 + p.len))
+  left_turn ps qs at p lt few e w =
+      let fuel : 17 - length ps ≡ suc (16 - length ps) = omega arith in
+      let less : 16 - length ps ≡ 17 - length qs = omega (arith, ap length e, length-append ps (p ∷ [])) in
+      let grown : map (shown bs) ps ++ (shown bs p ∷ []) ≡ map (shown bs) qs = sym (map_push (shown bs) ps p) ∙ ap (map (shown bs)) (sym e) in
+      ap (λ (n : ℕ). left n (map (shown bs) ps) at) fuel
+      ∙ left_on (16 - length ps) (map (shown bs) ps) at p lt w.1 w.2 w.0
       ∙ (λ i. left (less i) (grown i) (at + (28 + p.len)))

@@ -6,6 +6,8 @@ pub mod Handing
 pub mod Looking
 pub mod Walking
 pub mod Turns
+pub mod Mapped
+pub mod Bound
 pub mod Headers
 pub mod Mains
 pub mod Placed

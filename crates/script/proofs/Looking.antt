@@ -18,8 +18,9 @@ use Rattle.rules.specs.Script.{run, in_range, part_of, no_part, Keys, hand_over}
 use Rattle.rules.specs.Check.{Checks, bound_right, command_keys}
 use Rattle.script.specs.declared.part.Part.{Part}
 use Rattle.script.specs.declared.scope.Scope.{Scope}
-use Rattle.script.specs.Bindings.{fits, run_keys}
-use Rattle.script.specs.Parts.{shown, scope_of}
+use Rattle.script.specs.Runs.{fits, run_keys}
+use Rattle.script.specs.Parts.{shown}
+use Rattle.script.specs.Scopes.{scope_of}
 
 pub item_nth : {X : Type 0} (xs : List X) (i : ℕ) (r : Option (Bor X)) → IsGetResult xs i i r → option_map (λ x. x.now) r ≡ slice_get xs i
 item_nth xs i None w = sym (slice_get_past xs i w.3)
@@ -44,20 +45,20 @@ module _ (s : Scope) (p : ℕ) where
   abbrev below : List Part
   below = s.below.now
 
-  part_found : (q : Part) → slice_get below p ≡ Some q → part_of (scope_of s) p ≡ shown s.bytes.now q
-  part_found q e = found_mapped (shown s.bytes.now) below p q no_part e
+  part_found : (q : Part) → slice_get below p ≡ Some q → part_of (scope_of s) p ≡ shown s.draft.bytes.now q
+  part_found q e = found_mapped (shown s.draft.bytes.now) below p q no_part e
 
-  pub run_in_range : (bs : List ℕ) (q : Part) → slice_get below p ≡ Some q → in_range (scope_of s) (run p bs) ≡ all (fits bs q.handles s.running.handles) (from 0 8)
+  pub run_in_range : (bs : List ℕ) (q : Part) → slice_get below p ≡ Some q → in_range (scope_of s) (run p bs) ≡ all (fits bs q.own s.running.own) (from 0 8)
   run_in_range bs q e =
-      let lt : p < length (map (shown s.bytes.now) below) = subst (λ (n : ℕ). p < n) (sym (length-map below (shown s.bytes.now))) (found_in below p q e) in
-      ap (λ b. b && all (fits bs (part_of (scope_of s) p).handles s.running.handles) (from 0 8)) (is_less lt)
-      ∙ ap (λ (v : rules.Part). all (fits bs v.handles s.running.handles) (from 0 8)) (part_found q e)
+      let lt : p < length (map (shown s.draft.bytes.now) below) = subst (λ (n : ℕ). p < n) (sym (length-map below (shown s.draft.bytes.now))) (found_in below p q e) in
+      ap (λ b. b && all (fits bs (part_of (scope_of s) p).handles s.running.own) (from 0 8)) (is_less lt)
+      ∙ ap (λ (v : rules.Part). all (fits bs v.handles s.running.own) (from 0 8)) (part_found q e)
 
   pub run_out_of_range : (bs : List ℕ) → slice_get below p ≡ None → in_range (scope_of s) (run p bs) ≡ false
   run_out_of_range bs e =
-      let none : ltb p (length (map (shown s.bytes.now) below)) ≡ false =
-      is_false _ (λ h. missed below p e (subst (λ (n : ℕ). p < n) (length-map below (shown s.bytes.now)) (less p _ h)) s.running) in
-      ap (λ b. b && all (fits bs (part_of (scope_of s) p).handles s.running.handles) (from 0 8)) none
+      let none : ltb p (length (map (shown s.draft.bytes.now) below)) ≡ false =
+      is_false _ (λ h. missed below p e (subst (λ (n : ℕ). p < n) (length-map below (shown s.draft.bytes.now)) (less p _ h)) s.running) in
+      ap (λ b. b && all (fits bs (part_of (scope_of s) p).handles s.running.own) (from 0 8)) none
 
   pub runs : (check : Checks) (place : ℕ) (bs : List ℕ) (ks : Keys) (q : Part) → slice_get below p ≡ Some q →
       command_keys check (scope_of s) place (run p bs) ks ≡ run_keys s.running place q bs ks

@@ -1,5 +1,5 @@
 -- A part of the code at its place in the script, and the definition's reading of it.
-use Rattle.std.proofs.Common.{◌≡◌, ℕ, ◌+◌, ◌<◌, ◌≤◌, Bool, true, false, ◌&&◌, eqb, ltb, leb, ◌≢◌, List, length, get_or, take, drop, Ok, Err, sym, ap, ◌∙◌, drop-drop, le-ltb}
+use Rattle.std.proofs.Common.{◌≡◌, ℕ, ◌+◌, ◌<◌, ◌≤◌, Bool, true, false, ◌&&◌, eqb, ltb, leb, ◌≢◌, List, map, length, get_or, take, drop, Ok, Err, sym, ap, ◌∙◌, drop-drop, le-ltb}
 use borrow.Author.Tests.{lt-leb}
 use Rattle.faults.specs.declared.causes.LayoutCause.TheVariants.{NoPart, BadHeader}
 use Rattle.faults.specs.Numbers.{layout_fault}
@@ -62,10 +62,10 @@ module _ (book : List Kind) (k at : ℕ) (bs : List ℕ) where
 
 -- the part has what the bytes begin with
 pub record Copied (bs : List ℕ) (p : Part) : Type 0 where
-  pub handles : p.handles ≡ get_or bs 1 0
-  pub kinds : p.kinds ≡ thirds 8 (drop 2 bs)
-  pub ins : p.ins ≡ thirds 8 (drop 3 bs)
-  pub outs : p.outs ≡ thirds 8 (drop 4 bs)
+  pub own : p.own ≡ get_or bs 1 0
+  pub kinds : map (λ h. h.kind) p.handles ≡ thirds 8 (drop 2 bs)
+  pub ins : map (λ h. h.enters) p.handles ≡ thirds 8 (drop 3 bs)
+  pub outs : map (λ h. h.leaves) p.handles ≡ thirds 8 (drop 4 bs)
   pub len : p.len ≡ word bs 26
 
 module _ (book : List Kind) (k : ℕ) (bs : List ℕ) (p : Part) (rest : List ℕ) (e : rest ≡ drop p.place bs) (w : Copied rest p) where
@@ -74,7 +74,7 @@ module _ (book : List Kind) (k : ℕ) (bs : List ℕ) (p : Part) (rest : List �
       let behind : drop (p.place + 28) bs ≡ drop 28 rest = sym (drop-drop 28 p.place bs) ∙ ap (drop 28) (sym e) in
       λ i. record {
         place = p.place;
-        handles = w.handles i;
+        handles = w.own i;
         kinds = w.kinds i;
         ins = w.ins i;
         outs = w.outs i;

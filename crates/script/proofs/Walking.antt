@@ -1,5 +1,5 @@
 -- The laws of the check of a block: by its first command and the rest.
-use Rattle.std.proofs.Common.{◌≡◌, ℕ, suc, ◌+◌, ◌<◌, ◌≤◌, true, false, List, [], ◌∷◌, ◌++◌, length, get_or, drop, set, Some, Ok, Err, Option, Result, sym, refl, ap, ◌∙◌, arith, drop-cons, append_assoc}
+use Rattle.std.proofs.Common.{◌≡◌, ℕ, suc, ◌+◌, ◌<◌, ◌≤◌, true, false, List, [], ◌∷◌, ◌++◌, length, get_or, drop, set, Some, Ok, Err, Option, Result, sym, refl, ap, ◌∙◌, true≢false, arith, drop-cons, append_assoc}
 use Rattle.std.proofs.lemmas.List.{append-nil}
 use Rattle.faults.specs.declared.fault.Fault.{Fault}
 use Rattle.faults.specs.declared.causes.LayoutCause.TheVariants.{BadCommand, OutOfRange, TooDeep}
@@ -9,12 +9,12 @@ use Rattle.faults.specs.Results.{◌>>=◌, need}
 use Rattle.faults.proofs.Results.{follows, met}
 use Rattle.protocol.specs.Tables.{allowed, successors}
 use Rattle.rules.specs.Lists.{same}
-use Rattle.rules.specs.Script.{Block, Command, Read, broken, nothing, command, first, Scope, Keys, at, table_at, in_range, depth_fits, cut, send, ask}
+use Rattle.rules.specs.Script.{Block, Command, Read, broken, nothing, command, first, Scope, Keys, at, table_at, in_range, depth_fits, cut, send, ask, repeat, run, store, dec, cue, fail}
 use Rattle.rules.specs.Check.{Checks, agreed, branches, check_body, check_read, check_whole, command_keys, join, or_fault, undeclared_empty}
 use Rattle.rules.proofs.Fuel.{unrolls}
 use Rattle.rules.proofs.Reading.{no_first}
 use Rattle.script.specs.declared.command.Command as code
-use Rattle.script.specs.Commands.{said}
+use Rattle.script.specs.Commands.{in_range_so, said}
 use Rattle.script.specs.declared.blocks.Blocks.{Blocks}
 use Rattle.script.specs.Ends.{all_spare}
 use Rattle.script.specs.Pieces.{pieces, front, past}
@@ -85,7 +85,23 @@ module _ (check : Checks) (x : Scope) (place h l : ℕ) (ks : Keys) where
   after_allowed_ask bs = needed_first (allowed (table_at x h) (at ks h) l) (key_fault NotAllowed place) (successors (table_at x h) (at ks h) l) (asked bs)
 
 -- a command of the code that is in range
-module _ (x : Scope) (d place : ℕ) (ks : Keys) (c v : code.Command) (e : c ≡ v) (r : in_range x (said c) ≡ true) where
+pub so : (x : Scope) (c v : code.Command) → c ≡ v → in_range_so x (said c) ≡ true → in_range_so x (said v) ≡ true
+so x c v e r = sym (ap (λ (w : code.Command). in_range_so x (said w)) e) ∙ r
+
+pub not_so : (x : Scope) (c : Command) → in_range_so x c ≡ false → in_range x c ≡ false
+not_so x (send h l r) e = e
+not_so x (ask h l bs) e = e
+not_so x (repeat r b) e = e
+not_so x (run p bs) e = absurd (true≢false e)
+not_so x (store r v) e = e
+not_so x (dec r) e = e
+not_so x (cue n) e = e
+not_so x (fail n) e = e
+
+module _ (x : Scope) (d place : ℕ) (ks : Keys) (c v : code.Command) (e : c ≡ v) (fits : in_range x (said v) ≡ true) where
+  r : in_range x (said c) ≡ true
+  r = ap (λ (w : code.Command). in_range x (said w)) e ∙ fits
+
   pub stands_too_deep : depth_fits d (said v) ≡ false → command_after x d place (said c) ks ≡ Err (layout_fault TooDeep place)
   stands_too_deep f = too_deep x d place (said c) ks r (ap (λ (w : code.Command). depth_fits d (said w)) e ∙ f)
 

@@ -5,7 +5,7 @@ use Rattle.faults.specs.declared.causes.LayoutCause.TheVariants.{TooDeep}
 use Rattle.faults.specs.Numbers.{layout_fault}
 use Rattle.rules.specs.Script as rules
 use Rattle.script.specs.declared.level.Level.{Level}
-use Rattle.script.specs.Parts.{scope_of}
+use Rattle.script.specs.Scopes.{scope_of}
 
 abbrev pub scope_at : Level → rules.Scope
 scope_at l = scope_of l.scope.now

@@ -8,6 +8,7 @@ ghost use Rattle.script.specs.Pieces.{piece};
 use crate::answers::ByAnswer;
 use crate::block::Block;
 use crate::blocks::{Blocks, total};
+use crate::part::HANDLES;
 use faults::{Fault, LayoutCause};
 
 // The first byte of a command.
@@ -45,7 +46,7 @@ pub enum Command<'a> {
     },
     Run {
         part: u8,
-        bindings: [u8; 8],
+        bindings: [u8; HANDLES],
     },
     Set {
         register: u8,

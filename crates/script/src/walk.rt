@@ -3,11 +3,10 @@ ghost use Rattle.std.specs.Prelude.{◌≡◌};
 ghost use Rattle.rules.specs.Check.{check_body};
 ghost use Rattle.script.specs.Commands.{said};
 ghost use Rattle.script.specs.Levels.{scope_at};
-ghost use Rattle.script.specs.Parts.{Lies, scope_of};
+ghost use Rattle.script.specs.Scopes.{scope_of};
 ghost use Rattle.script.specs.Pieces.{piece, pieces};
 ghost use Rattle.script.specs.Walk.{GivesEnds, allowed_at, ask_keys, block_keys, branch_ends, command_after, repeat_keys, send_keys};
 
-use crate::bindings::check_run;
 use crate::block::Block;
 use crate::blocks::Blocks;
 use crate::command::{Command, read_command};
@@ -120,10 +119,12 @@ impl Level<'_> {
                 let inner = self.deeper(place)?;
                 inner.check_repeat(place, block, keys)
             }
-            Command::Run { part, bindings } => match scope.part(part) {
-                Some(part) => check_run(&scope.running, place, &part, bindings, keys),
-                None => unreachable(),
-            },
+            Command::Run { part, bindings } => {
+                let Some(run) = scope.run(part, bindings) else {
+                    return Err(LayoutCause::OutOfRange.at(place));
+                };
+                run.check(place, keys)
+            }
             Command::Set { .. }
             | Command::Dec { .. }
             | Command::Cue { .. }
@@ -149,13 +150,12 @@ impl Level<'_> {
 
 // The body of the running part leads from its stations in to its stations out.
 pub(crate) fn check_body<'a>(scope: &'a Scope<'a>) -> Result<(), Fault>
-    requires { Lies scope.now.bytes.now scope.now.running }
     ensures { result ≡ check_body (scope_of scope.now) }
 {
     let part = scope.running;
     let level = Level { scope, depth: 1 };
-    let end = level.check_block(part.body(scope.bytes), part.ins)?;
-    if end == part.outs {
+    let end = level.check_block(scope.body(), part.stations_in())?;
+    if end == part.stations_out() {
         Ok(())
     } else {
         Err(KeyCause::BodyEnd.at(part.place))
