@@ -1,7 +1,6 @@
 -- The parts behind those already read.
-use Rattle.std.proofs.Common.{◌≡◌, ℕ, zero, suc, ◌+◌, ◌-◌, ◌<◌, ◌≤◌, List, [], ◌∷◌, ◌++◌, map, length, take, drop, Ok, Err, Result, sym, refl, ap, ◌∙◌, arith, length-append, length-drop, length-take, drop-drop}
-use lib.ListN.{length-map}
-use Rattle.std.proofs.lemmas.List.{drop_all, map_push}
+use Rattle.std.proofs.Common.{◌≡◌, ℕ, zero, suc, ◌+◌, ◌-◌, ◌<◌, List, [], ◌∷◌, ◌++◌, map, length, take, drop, Ok, Err, Result, sym, refl, ap, ◌∙◌, arith, length-append, length-drop, length-take, drop-drop}
+use Rattle.std.proofs.lemmas.List.{map_push}
 use Rattle.faults.specs.declared.fault.Fault.{Fault}
 use Rattle.faults.specs.Results.{◌>>=◌}
 use Rattle.faults.proofs.Results.{follows}
@@ -14,33 +13,6 @@ use Rattle.script.specs.Parts.{shown, Lies}
 use Rattle.script.specs.Headers.{GivesPart}
 use Rattle.script.specs.Scripts.{over, next_part}
 use Rattle.script.proofs.Turns.{stops, in_turn}
-
--- One part
-
-module _ (book : List Kind) (bs : List ℕ) (below : List Part) (at : ℕ) where
-  abbrev ps : List rules.Part
-  ps = map (shown bs) below
-
-  abbrev read_as : ℕ → Result (rules.Part × List ℕ) Fault
-  read_as k = read_part book k at (drop at bs)
-
-  abbrev checked : rules.Part × List ℕ → Result (rules.Part × List ℕ) Fault
-  checked got = check_body (over book ps got.0) >>= (λ _. Ok got)
-
-  numbered : {r : Result (rules.Part × List ℕ) Fault} → read_as (length below) ≡ r → read_as (length ps) ≡ r
-  numbered e = ap read_as (length-map below (shown bs)) ∙ e
-
-  pub not_read : (e : Fault) → read_as (length below) ≡ Err e → next_part book ps at (drop at bs) ≡ Err e
-  not_read e r = stops checked (numbered r)
-
-  module _ (p : Part) (r : read_as (length below) ≡ Ok (shown bs p, drop (28 + p.len) (drop at bs))) where
-    pub not_checked : (e : Fault) → Err e ≡ check_body (over book ps (shown bs p)) → next_part book ps at (drop at bs) ≡ Err e
-    not_checked e c = follows checked (numbered r) ∙ stops _ (sym c)
-
-    pub is_next : Ok tt ≡ check_body (over book ps (shown bs p)) → next_part book ps at (drop at bs) ≡ Ok (shown bs p, drop (28 + p.len) (drop at bs))
-    is_next c = follows checked (numbered r) ∙ follows _ (sym c)
-
--- The others
 
 module _ (book : List Kind) (bs : List ℕ) where
   more : ℕ → List rules.Part → ℕ → rules.Part × List ℕ → Result (List rules.Part) Fault
@@ -74,9 +46,6 @@ module _ (book : List Kind) (bs : List ℕ) where
   none_left : (n : ℕ) (ps : List rules.Part) (at : ℕ) → check_parts n book ps at [] ≡ Ok ps
   none_left zero ps at = refl
   none_left (suc n) ps at = refl
-
-  pub left_ends : (n : ℕ) (ps : List rules.Part) (at : ℕ) → length bs ≤ at → left n ps at ≡ Ok ps
-  left_ends n ps at le = ap (λ (v : List ℕ). check_parts n book ps at v) (drop_all at bs le) ∙ none_left n ps at
 
   -- with the next part added to those so far
   pub left_turn : (ps qs : List Part) (at : ℕ) (p : Part) → at < length bs → length ps < 16 → qs ≡ ps ++ (p ∷ []) → GivesPart bs at (Ok p) (next_part book (map (shown bs) ps) at (drop at bs)) →

@@ -1,23 +1,13 @@
 -- What values have in common, and blocks that must be empty.
-use Rattle.std.proofs.Common.{◌≡◌, ℕ, zero, suc, ◌+◌, ◌<◌, ◌≤◌, Bool, true, false, cond, ◌&&◌, eqb, List, [], ◌∷◌, length, get_or, take, drop, Some, None, Option, sym, refl, ap, ◌∙◌, arith, add-one, drop-cons, length-drop}
+use Rattle.std.proofs.Common.{◌≡◌, ℕ, zero, suc, ◌+◌, ◌<◌, ◌≤◌, Bool, true, false, cond, ◌&&◌, eqb, List, [], ◌∷◌, length, get_or, take, drop, Some, None, Option, sym, refl, ap, ◌∙◌, arith, length-drop}
 use Rattle.std.specs.Bool.{then_some}
 use Rattle.std.specs.List.{list_all}
 use Rattle.protocol.specs.Lists.{all}
 use Rattle.protocol.proofs.Tests.{other_numbers}
 use Rattle.rules.specs.Lists.{empty, same, total}
 use Rattle.rules.specs.Script.{Keys, cut}
-use Rattle.rules.specs.Check.{agreed, agrees, join, undeclared_empty}
-use Rattle.script.specs.Ends.{all_spare, common_by, somes}
-
-all_agree : (t : ℕ) (ts : List (Option ℕ)) → all (agrees t) ts ≡ list_all (λ u. eqb u t) (somes ts)
-all_agree t [] = refl
-all_agree t (None ∷ ts) = all_agree t ts
-all_agree t (Some u ∷ ts) = ap (λ b. eqb u t && b) (all_agree t ts)
-
-pub agreed_common : (ts : List (Option ℕ)) → agreed ts ≡ common_by eqb (somes ts)
-agreed_common [] = refl
-agreed_common (None ∷ ts) = agreed_common ts
-agreed_common (Some t ∷ ts) = ap (λ b. cond b (Some t) None) (all_agree t ts)
+use Rattle.rules.specs.Check.{join, undeclared_empty}
+use Rattle.script.specs.Ends.{all_spare, common_by}
 
 module _ (test : Keys → Keys → Bool) (is_same : (a b : Keys) → test b a ≡ same a b) where
   all_same : (ks : Keys) (ends : List Keys) → all (same ks) ends ≡ list_all (λ e. test e ks) ends
@@ -46,9 +36,6 @@ spare_where (None ∷ ts) (n ∷ ns) p bs le = λ i. no_bytes n bs (omega arith)
 spare_where (Some t ∷ ts) (n ∷ ns) p bs le = spare_where ts ns (p + n) (drop n bs) (omega (arith, length-drop n bs))
 
 -- One by one
-
-pub somes_at : {X : Type 0} (xs : List (Option X)) (i : ℕ) (x : Option X) → i < length xs → x ≡ get_or xs i x → somes (drop i xs) ≡ somes (x ∷ drop (i + 1) xs)
-somes_at xs i x lt e = rw (add-one) (ap somes (drop-cons xs i x lt) ∙ ap (λ o. somes (o ∷ drop (suc i) xs)) (sym e))
 
 pub common_first : {X : Type 0} (test : X → X → Bool) (xs : List X) (x : X) (r : Bool) → 0 < length xs → x ≡ get_or xs 0 x → r ≡ list_all (λ y. test y x) (drop 1 xs) → common_by test xs ≡ then_some r x
 common_first test [] x r lt e q = absurd (omega arith)

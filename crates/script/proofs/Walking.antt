@@ -1,16 +1,15 @@
 -- The laws of the check of a block: by its first command and the rest.
-use Rattle.std.proofs.Common.{◌≡◌, ℕ, suc, ◌+◌, ◌<◌, ◌≤◌, true, false, List, [], ◌∷◌, ◌++◌, length, get_or, drop, set, Some, Ok, Err, Option, Result, sym, refl, ap, ◌∙◌, true≢false, arith, drop-cons, append_assoc}
-use Rattle.std.proofs.lemmas.List.{append-nil}
+use Rattle.std.proofs.Common.{◌≡◌, ℕ, suc, ◌+◌, ◌<◌, ◌≤◌, true, false, List, [], ◌∷◌, ◌++◌, length, get_or, drop, Ok, Err, Option, Result, sym, refl, ap, ◌∙◌, true≢false, arith, drop-cons}
 use Rattle.faults.specs.declared.fault.Fault.{Fault}
 use Rattle.faults.specs.declared.causes.LayoutCause.TheVariants.{BadCommand, OutOfRange, TooDeep}
-use Rattle.faults.specs.declared.causes.KeyCause.TheVariants.{NotAllowed, AnswersDiffer, UndeclaredBlock, EndsDiffer, BodyEnd}
+use Rattle.faults.specs.declared.causes.KeyCause.TheVariants.{NotAllowed, UndeclaredBlock, EndsDiffer, BodyEnd}
 use Rattle.faults.specs.Numbers.{layout_fault, key_fault}
 use Rattle.faults.specs.Results.{◌>>=◌, need}
 use Rattle.faults.proofs.Results.{follows, met}
 use Rattle.protocol.specs.Tables.{allowed, successors}
 use Rattle.rules.specs.Lists.{same}
 use Rattle.rules.specs.Script.{Block, Command, Read, broken, nothing, command, first, Scope, Keys, at, table_at, in_range, depth_fits, cut, send, ask, repeat, run, store, dec, cue, fail}
-use Rattle.rules.specs.Check.{Checks, agreed, branches, check_body, check_read, check_whole, command_keys, join, or_fault, undeclared_empty}
+use Rattle.rules.specs.Check.{Checks, branches, check_body, check_read, check_whole, command_keys, join, or_fault, undeclared_empty}
 use Rattle.rules.proofs.Fuel.{unrolls}
 use Rattle.rules.proofs.Reading.{no_first}
 use Rattle.script.specs.declared.command.Command as code
@@ -74,10 +73,6 @@ module _ (x : Scope) (d place : ℕ) (c : Command) (ks : Keys) where
 -- Once the letter is allowed
 
 module _ (check : Checks) (x : Scope) (place h l : ℕ) (ks : Keys) where
-  pub after_allowed_send : command_keys check x place (send h l 0) ks
-      ≡ (allowed_at x place h l ks >>= (λ ts. or_fault (agreed ts) (key_fault AnswersDiffer place) >>= (λ t. Ok (set ks h t))))
-  after_allowed_send = needed_first (allowed (table_at x h) (at ks h) l) (key_fault NotAllowed place) (successors (table_at x h) (at ks h) l) (λ ts. or_fault (agreed ts) (key_fault AnswersDiffer place) >>= (λ t. Ok (set ks h t)))
-
   abbrev pub asked : List Block → List (Option ℕ) → Result Keys Fault
   asked bs ts = need (undeclared_empty ts bs) (key_fault UndeclaredBlock place) >>= (λ _. branches check ks h ts bs >>= (λ ends. or_fault (join ends) (key_fault EndsDiffer place)))
 
@@ -137,28 +132,6 @@ module _ (check : Checks) (ks : Keys) (h : ℕ) where
   -- behind those whose blocks end so
   abbrev pub behind : List Keys → List (Option ℕ) → List Block → Result (List Keys) Fault
   behind ends ts bs = branches check ks h ts bs >>= (λ more. Ok (ends ++ more))
-
-  pub all_behind : (ts : List (Option ℕ)) (bs : List Block) → branches check ks h ts bs ≡ behind [] ts bs
-  all_behind ts bs = by (branches check ks h ts bs)
-    where
-      by : (r : Result (List Keys) Fault) → r ≡ (r >>= (λ more. Ok ([] ++ more)))
-      by (Ok v) = refl
-      by (Err e) = refl
-
-  pub none_behind : (ends : List Keys) (bs : List Block) → behind ends [] bs ≡ Ok ends
-  none_behind ends bs = ap (λ (v : List Keys). Ok v) (append-nil ends)
-
-  pub one_ends : (ends : List Keys) (t : ℕ) (ts : List (Option ℕ)) (b : Block) (bs : List Block) (end : Keys) → check b (set ks h t) ≡ Ok end →
-      behind ends (Some t ∷ ts) (b ∷ bs) ≡ behind (ends ++ end ∷ []) ts bs
-  one_ends ends t ts b bs end e =
-      ap (λ r. r >>= (λ more. Ok (ends ++ more))) (follows (λ k. branches check ks h ts bs >>= (λ more. Ok (k ∷ more))) e) ∙ by (branches check ks h ts bs)
-    where
-      by : (r : Result (List Keys) Fault) → ((r >>= (λ more. Ok (end ∷ more))) >>= (λ more. Ok (ends ++ more))) ≡ (r >>= (λ more. Ok ((ends ++ end ∷ []) ++ more)))
-      by (Ok v) = ap (λ (w : List Keys). Ok w) (sym (append_assoc ends (end ∷ []) v))
-      by (Err f) = refl
-
-  pub one_fails : (ends : List Keys) (t : ℕ) (ts : List (Option ℕ)) (b : Block) (bs : List Block) (f : Fault) → check b (set ks h t) ≡ Err f → behind ends (Some t ∷ ts) (b ∷ bs) ≡ Err f
-  one_fails ends t ts b bs f e = ap (λ r. (r >>= (λ k. branches check ks h ts bs >>= (λ more. Ok (k ∷ more)))) >>= (λ more. Ok (ends ++ more))) e
 
   -- the next answer, with its block in front of the others
   pub turn : (ends : List Keys) (to : List (Option ℕ)) (ns : List ℕ) (n : ℕ) (o : Option ℕ) (len : ℕ) (b : Block) → n < length to → n < length ns → o ≡ get_or to n o → len ≡ get_or ns n len →

@@ -1,2 +1,4 @@
 // Something for each answer, 0 to 3.
-pub type ByAnswer<T> = [T; 4];
+pub const ANSWERS: usize = 4;
+
+pub type ByAnswer<T> = [T; ANSWERS];

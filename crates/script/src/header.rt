@@ -6,7 +6,7 @@ ghost use Rattle.script.specs.Headers.{GivesPart, empty_handle, handles_fit, ran
 
 use crate::command::word;
 use crate::draft::Draft;
-use crate::part::{HANDLES, Handle, NONE, Part};
+use crate::part::{HANDLES, Handle, MOST_PARTS, NONE, Part};
 use book::Book;
 use faults::{Fault, LayoutCause};
 use protocol::STATIONS;
@@ -17,8 +17,12 @@ use std::array;
 pub(crate) const HEADER: u16 = 28;
 
 const MARK: u8 = 0x10;
-// The most parts of a script.
-const MOST_PARTS: usize = 16;
+// The triple of a handle that the part does not have.
+const EMPTY: Handle = Handle {
+    kind: NONE,
+    enters: NONE,
+    leaves: NONE,
+};
 
 // The triples of a header.
 fn triples(header: &[u8]) -> [Handle; HANDLES]
@@ -44,7 +48,7 @@ impl Handle {
     fn is_empty(&self) -> bool
         ensures { result ≡ empty_handle self.now }
     {
-        self.kind == NONE && self.enters == NONE && self.leaves == NONE
+        *self == EMPTY
     }
 }
 

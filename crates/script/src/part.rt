@@ -31,8 +31,11 @@ pub struct Part {
     ghost few: { own ≤ 8 },
 }
 
+// The most parts of a script.
+pub const MOST_PARTS: usize = 16;
+
 // By number.
-pub type Parts = ArrayVec<Part, 16>;
+pub type Parts = ArrayVec<Part, MOST_PARTS>;
 
 impl Default for Part {
     fn default() -> Part {

@@ -3,7 +3,7 @@ ghost use Rattle.std.specs.Prelude.{◌≡◌, is_some};
 ghost use Rattle.std.specs.List.{list_any};
 ghost use Rattle.script.specs.Ends.{all_spare, common_by, somes};
 
-use crate::answers::ByAnswer;
+use crate::answers::{ANSWERS, ByAnswer};
 use arrayvec::ArrayVec;
 
 // By answer, the station to which it leads, if it is declared.
@@ -16,7 +16,7 @@ pub(crate) fn some_declared(to: &Successors) -> bool
 }
 
 // The stations to which the declared answers lead.
-pub(crate) fn declared(to: &Successors) -> ArrayVec<u8, 4>
+pub(crate) fn declared(to: &Successors) -> ArrayVec<u8, ANSWERS>
     ensures { result.items ≡ somes to.now }
 {
     let mut stations = ArrayVec::new();

@@ -7,6 +7,7 @@ ghost use Rattle.script.specs.Scopes.{scope_of};
 ghost use Rattle.script.specs.Pieces.{piece, pieces};
 ghost use Rattle.script.specs.Walk.{GivesEnds, allowed_at, ask_keys, block_keys, branch_ends, command_after, repeat_keys, send_keys};
 
+use crate::answers::ANSWERS;
 use crate::block::Block;
 use crate::blocks::Blocks;
 use crate::command::{Command, read_command};
@@ -48,7 +49,7 @@ impl Level<'_> {
         to: &Successors,
         blocks: Blocks,
         keys: Keys,
-    ) -> Result<ArrayVec<Keys, 4>, Fault>
+    ) -> Result<ArrayVec<Keys, ANSWERS>, Fault>
         ensures { GivesEnds result (branch_ends (scope_at self.now) self.now.depth handle to.now (pieces blocks.entry) keys) }
     {
         let mut ends = ArrayVec::new();
