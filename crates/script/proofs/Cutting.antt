@@ -1,5 +1,5 @@
 -- Blocks that are cut from a longer run of bytes.
-use Rattle.std.proofs.Common.{◌≡◌, ℕ, ◌+◌, ◌<◌, ◌≤◌, true, false, List, [], ◌∷◌, length, take, drop, fold, sym, refl, ap, ◌∙◌, arith, add_assoc}
+use Rattle.std.proofs.Common.{◌≡◌, ℕ, ◌+◌, ◌<◌, ◌≤◌, true, false, List, [], ◌∷◌, length, take, drop, fold, sym, refl, ap, ◌∙◌, arith, add_assoc, length-drop}
 use Rattle.std.specs.List.{sum}
 use Rattle.std.proofs.lemmas.List.{take-take, drop-take}
 use borrow.Author.Tests.{lt-leb}
@@ -29,3 +29,10 @@ module _ (tail : Block) where
 
   pub ask_broken : (h l : ℕ) (ns : List ℕ) → length tail.bytes < total ns → ask_at h l ns tail ≡ broken
   ask_broken h l ns lt = ap (λ t. elim t [ false ↦ broken | true ↦ command (ask h l (cut tail.place tail.bytes ns)) (past (total ns) tail) ]) (lt-leb (total ns) (length tail.bytes) lt)
+
+-- what is left behind the front of a block
+pub left : (n : ℕ) (b r : Block) (rest : List ℕ) → n ≤ length b.bytes → rest ≡ drop n b.bytes → r.bytes ≡ rest → r.place + length rest ≡ b.place + length b.bytes → past n b ≡ r
+left n b r rest le p q e =
+    let len : length rest + n ≡ length b.bytes = omega (arith, ap length p, length-drop n b.bytes) in
+    let place : b.place + n ≡ r.place = omega (arith, len, e) in
+    λ i. record { place = place i; bytes = sym (q ∙ p) i }

@@ -13,6 +13,18 @@ pub struct Block<'a> {
 impl<'a> Block<'a> {
     ghost use Rattle.script.specs.Pieces.{front, past, piece};
 
+    // What is behind the front of the block.
+    pub(crate) fn behind(self, rest: &'a [u8]) -> Block<'a>
+        requires { length rest.now ≤ length (piece self).bytes }
+        ensures bytes { (piece result).bytes ≡ rest.now }
+        ensures place { (piece result).place + length rest.now ≡ (piece self.entry).place + length (piece self.entry).bytes }
+    {
+        Block {
+            bytes: rest,
+            place: self.place + (self.bytes.len() - rest.len()) as u16,
+        }
+    }
+
     // The first bytes, as many as the number, and what follows them.
     pub(crate) fn cut(self, len: u16) -> (Block<'a>, Block<'a>)
         requires { len ≤ length (piece self).bytes }

@@ -124,10 +124,7 @@ pub(crate) fn read_command<'a>(block: Block<'a>) -> Result<(Command<'a>, Block<'
                 letter: *letter,
                 register: *register,
             },
-            Block {
-                bytes: rest,
-                place: place + 4,
-            },
+            block.behind(rest),
         )),
         [
             ASK,
@@ -152,67 +149,38 @@ pub(crate) fn read_command<'a>(block: Block<'a>) -> Result<(Command<'a>, Block<'
                 word(*c0, *c1),
                 word(*d0, *d1),
             ],
-            Block {
-                bytes: tail,
-                place: place + 11,
-            },
+            block.behind(tail),
         ),
         [REPEAT, register, w0, w1, tail @ ..] => {
-            read_repeat(
-                place,
-                *register,
-                word(*w0, *w1),
-                Block {
-                    bytes: tail,
-                    place: place + 4,
-                },
-            )
+            read_repeat(place, *register, word(*w0, *w1), block.behind(tail))
         }
         [RUN, part, b0, b1, b2, b3, b4, b5, b6, b7, rest @ ..] => Ok((
             Command::Run {
                 part: *part,
                 bindings: [*b0, *b1, *b2, *b3, *b4, *b5, *b6, *b7],
             },
-            Block {
-                bytes: rest,
-                place: place + 10,
-            },
+            block.behind(rest),
         )),
         [SET, register, value, rest @ ..] => Ok((
             Command::Set {
                 register: *register,
                 value: *value,
             },
-            Block {
-                bytes: rest,
-                place: place + 3,
-            },
+            block.behind(rest),
         )),
         [DEC, register, rest @ ..] => Ok((
             Command::Dec {
                 register: *register,
             },
-            Block {
-                bytes: rest,
-                place: place + 2,
-            },
+            block.behind(rest),
         )),
         [CUE, w0, w1, rest @ ..] => Ok((
             Command::Cue {
                 number: word(*w0, *w1),
             },
-            Block {
-                bytes: rest,
-                place: place + 3,
-            },
+            block.behind(rest),
         )),
-        [FAIL, code, rest @ ..] => Ok((
-            Command::Fail { code: *code },
-            Block {
-                bytes: rest,
-                place: place + 2,
-            },
-        )),
+        [FAIL, code, rest @ ..] => Ok((Command::Fail { code: *code }, block.behind(rest))),
         _ => Err(LayoutCause::BadCommand.at(place)),
     }
 }
