@@ -1,7 +1,6 @@
 -- The parts behind those already read.
-use Rattle.std.proofs.Common.{◌≡◌, ℕ, zero, suc, ◌+◌, ◌-◌, ◌<◌, ◌≤◌, List, [], ◌∷◌, ◌++◌, map, length, take, drop, Ok, Err, Result, sym, refl, ap, ◌∙◌, arith, length-drop, length-take, drop-drop}
-use lib.ListN.{length-map}
-use Rattle.std.proofs.lemmas.List.{drop_all, map_push}
+use Rattle.std.proofs.Common.{◌≡◌, ℕ, zero, suc, ◌+◌, ◌-◌, ◌<◌, List, [], ◌∷◌, ◌++◌, map, length, take, drop, Ok, Err, Result, sym, refl, ap, ◌∙◌, arith, length-append, length-drop, length-take, drop-drop}
+use Rattle.std.proofs.lemmas.List.{map_push}
 use Rattle.faults.specs.declared.fault.Fault.{Fault}
 use Rattle.faults.specs.Results.{◌>>=◌}
 use Rattle.faults.proofs.Results.{follows}
@@ -10,38 +9,10 @@ use Rattle.rules.specs.Script as rules
 use Rattle.rules.specs.Script.{read_part}
 use Rattle.rules.specs.Check.{check_body, check_parts}
 use Rattle.script.specs.declared.part.Part.{Part}
-use Rattle.script.specs.declared.parts.Parts.{Parts}
 use Rattle.script.specs.Parts.{shown, Lies}
 use Rattle.script.specs.Headers.{GivesPart}
-use Rattle.script.specs.Scripts.{over, next_part, shown_parts}
+use Rattle.script.specs.Scripts.{over, next_part}
 use Rattle.script.proofs.Turns.{stops, in_turn}
-
--- One part
-
-module _ (book : List Kind) (bs : List ℕ) (below : List Part) (at : ℕ) where
-  abbrev ps : List rules.Part
-  ps = map (shown bs) below
-
-  abbrev read_as : ℕ → Result (rules.Part × List ℕ) Fault
-  read_as k = read_part book k at (drop at bs)
-
-  abbrev checked : rules.Part × List ℕ → Result (rules.Part × List ℕ) Fault
-  checked got = check_body (over book ps got.0) >>= (λ _. Ok got)
-
-  numbered : {r : Result (rules.Part × List ℕ) Fault} → read_as (length below) ≡ r → read_as (length ps) ≡ r
-  numbered e = ap read_as (length-map below (shown bs)) ∙ e
-
-  pub not_read : (e : Fault) → read_as (length below) ≡ Err e → next_part book ps at (drop at bs) ≡ Err e
-  not_read e r = stops checked (numbered r)
-
-  module _ (p : Part) (r : read_as (length below) ≡ Ok (shown bs p, drop (28 + p.len) (drop at bs))) where
-    pub not_checked : (e : Fault) → Err e ≡ check_body (over book ps (shown bs p)) → next_part book ps at (drop at bs) ≡ Err e
-    not_checked e c = follows checked (numbered r) ∙ stops _ (sym c)
-
-    pub is_next : Ok tt ≡ check_body (over book ps (shown bs p)) → next_part book ps at (drop at bs) ≡ Ok (shown bs p, drop (28 + p.len) (drop at bs))
-    is_next c = follows checked (numbered r) ∙ follows _ (sym c)
-
--- The others
 
 module _ (book : List Kind) (bs : List ℕ) where
   more : ℕ → List rules.Part → ℕ → rules.Part × List ℕ → Result (List rules.Part) Fault
@@ -76,17 +47,13 @@ module _ (book : List Kind) (bs : List ℕ) where
   none_left zero ps at = refl
   none_left (suc n) ps at = refl
 
-  pub left_ends : (n : ℕ) (ps : List rules.Part) (at : ℕ) → length bs ≤ at → left n ps at ≡ Ok ps
-  left_ends n ps at le = ap (λ (v : List ℕ). check_parts n book ps at v) (drop_all at bs le) ∙ none_left n ps at
-
   -- with the next part added to those so far
-  pub left_turn : (t t' : Parts) (at : ℕ) (p : Part) → at < length bs → t.count < 16 → t'.count ≡ t.count + 1 →
-      take t'.count t'.items ≡ take t.count t.items ++ (p ∷ []) → GivesPart bs at (Ok p) (next_part book (shown_parts bs t) at (drop at bs)) →
-      left (17 - t.count) (shown_parts bs t) at ≡ left (17 - t'.count) (shown_parts bs t') (at + (28 + p.len))
-  left_turn t t' at p lt few counted listed w =
-      let fuel : 17 - t.count ≡ suc (16 - t.count) = omega arith in
-      let less : 16 - t.count ≡ 17 - t'.count = omega arith in
-      let grown : shown_parts bs t ++ (shown bs p ∷ []) ≡ shown_parts bs t' = sym (map_push (shown bs) (take t.count t.items) p) ∙ ap (map (shown bs)) (sym listed) in
-      ap (λ (n : ℕ). left n (shown_parts bs t) at) fuel
-      ∙ left_on (16 - t.count) (shown_parts bs t) at p lt w.1 w.2 w.0
+  pub left_turn : (ps qs : List Part) (at : ℕ) (p : Part) → at < length bs → length ps < 16 → qs ≡ ps ++ (p ∷ []) → GivesPart bs at (Ok p) (next_part book (map (shown bs) ps) at (drop at bs)) →
+      left (17 - length ps) (map (shown bs) ps) at ≡ left (17 - length qs) (map (shown bs) qs) (at + (28 + p.len))
+  left_turn ps qs at p lt few e w =
+      let fuel : 17 - length ps ≡ suc (16 - length ps) = omega arith in
+      let less : 16 - length ps ≡ 17 - length qs = omega (arith, ap length e, length-append ps (p ∷ [])) in
+      let grown : map (shown bs) ps ++ (shown bs p ∷ []) ≡ map (shown bs) qs = sym (map_push (shown bs) ps p) ∙ ap (map (shown bs)) (sym e) in
+      ap (λ (n : ℕ). left n (map (shown bs) ps) at) fuel
+      ∙ left_on (16 - length ps) (map (shown bs) ps) at p lt w.1 w.2 w.0
       ∙ (λ i. left (less i) (grown i) (at + (28 + p.len)))

@@ -1,7 +1,9 @@
 -- Bound handles, one after the other.
-use Rattle.std.proofs.Common.{◌≡◌, ℕ, ◌<◌, ◌≤◌, true, not, ◌&&◌, List, [], ◌∷◌, length, get_or, drop, set, refl, arith}
+use Rattle.std.proofs.Common.{◌≡◌, ℕ, suc, ◌<◌, ◌≤◌, true, not, ◌&&◌, List, [], ◌∷◌, map, length, get_or, drop, min, refl, ap, ◌∙◌, arith}
+use Rattle.std.proofs.lemmas.List.{drop_all}
 use Rattle.rules.specs.Lists.{has, distinct}
 use Rattle.rules.specs.Script.{Keys, hand_over}
+use Rattle.script.specs.declared.part.Handle.{Handle}
 
 pub distinct_first : (bs : List ℕ) → 0 < length bs → distinct bs ≡ (not (has (get_or bs 0 0) (drop 1 bs)) && distinct (drop 1 bs))
 distinct_first [] lt = absurd (omega arith)
@@ -11,16 +13,9 @@ pub distinct_none : (bs : List ℕ) → length bs ≤ 0 → distinct bs ≡ true
 distinct_none [] le = refl
 distinct_none (b ∷ bs) le = absurd (omega arith)
 
-pub hand_first : (ks : Keys) (bs ts : List ℕ) → 0 < length bs → 0 < length ts → hand_over ks bs ts ≡ hand_over (set ks (get_or bs 0 0) (get_or ts 0 0)) (drop 1 bs) (drop 1 ts)
-hand_first ks [] ts lt lt' = absurd (omega arith)
-hand_first ks (b ∷ bs) [] lt lt' = absurd (omega arith)
-hand_first ks (b ∷ bs) (t ∷ ts) lt lt' = refl
-
-pub hand_none : (ks : Keys) (bs ts : List ℕ) → length bs ≤ 0 → hand_over ks bs ts ≡ ks
-hand_none ks [] ts le = refl
-hand_none ks (b ∷ bs) ts le = absurd (omega arith)
-
-pub hand_nowhere : (ks : Keys) (bs ts : List ℕ) → length ts ≤ 0 → hand_over ks bs ts ≡ ks
-hand_nowhere ks [] [] le = refl
-hand_nowhere ks (b ∷ bs) [] le = refl
-hand_nowhere ks bs (t ∷ ts) le = absurd (omega arith)
+pub hand_none : (ks : Keys) (bs : List ℕ) (hs : List Handle) (n : ℕ) → n ≡ min (length bs) (length hs) → hand_over ks (drop n bs) (map (λ (h : Handle). h.leaves) (drop n hs)) ≡ ks
+hand_none ks [] hs n e = ap (λ v. hand_over ks v (map (λ (h : Handle). h.leaves) (drop n hs))) (drop_all n [] (omega arith))
+hand_none ks (b ∷ bs) [] n e = let z : n ≡ 0 = omega arith in ap (λ (m : ℕ). hand_over ks (drop m (b ∷ bs)) (map (λ (h : Handle). h.leaves) (drop m []))) z
+hand_none ks (b ∷ bs) (h ∷ hs) n e =
+    let z : n ≡ suc (min (length bs) (length hs)) = omega arith in
+    ap (λ (m : ℕ). hand_over ks (drop m (b ∷ bs)) (map (λ (h : Handle). h.leaves) (drop m (h ∷ hs)))) z ∙ hand_none ks bs hs (min (length bs) (length hs)) refl

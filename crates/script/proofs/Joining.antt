@@ -1,44 +1,46 @@
--- The ends of blocks by answer, joined.
-use Rattle.std.proofs.Common.{◌≡◌, cond, ◌&&◌, List, [], ◌∷◌, Some, None, Option, sym, refl, ap, ◌∙◌}
-use Rattle.std.specs.Option.{option_or}
+-- What values have in common, and blocks that must be empty.
+use Rattle.std.proofs.Common.{◌≡◌, ℕ, zero, suc, ◌+◌, ◌<◌, ◌≤◌, Bool, true, false, cond, ◌&&◌, eqb, List, [], ◌∷◌, length, get_or, take, drop, Some, None, Option, sym, refl, ap, ◌∙◌, arith, length-drop}
+use Rattle.std.specs.Bool.{then_some}
+use Rattle.std.specs.List.{list_all}
 use Rattle.protocol.specs.Lists.{all}
-use Rattle.rules.specs.Lists.{same}
-use Rattle.rules.specs.Script.{Keys}
-use Rattle.rules.specs.Check.{join}
-use Rattle.rules.proofs.Lists.{same_self}
-use Rattle.script.specs.Ends.{all_ended, somes}
+use Rattle.protocol.proofs.Tests.{other_numbers}
+use Rattle.rules.specs.Lists.{empty, same, total}
+use Rattle.rules.specs.Script.{Keys, cut}
+use Rattle.rules.specs.Check.{join, undeclared_empty}
+use Rattle.script.specs.Ends.{all_spare, common_by}
 
-all_somes : (ks : Keys) (es : List (Option Keys)) → all_ended ks es ≡ all (same ks) (somes es)
-all_somes ks [] = refl
-all_somes ks (None ∷ es) = all_somes ks es
-all_somes ks (Some e ∷ es) = ap (λ b. same ks e && b) (all_somes ks es)
+module _ (test : Keys → Keys → Bool) (is_same : (a b : Keys) → test b a ≡ same a b) where
+  all_same : (ks : Keys) (ends : List Keys) → all (same ks) ends ≡ list_all (λ e. test e ks) ends
+  all_same ks [] = refl
+  all_same ks (e ∷ ends) = λ i. sym (is_same ks e) i && all_same ks ends i
 
--- by the first end that there is
-abbrev joined_by : List (Option Keys) → Option Keys → Option Keys
-joined_by es None = None
-joined_by es (Some ks) = cond (all_ended ks es) (Some ks) None
+  pub join_common : (ends : List Keys) → join ends ≡ common_by test ends
+  join_common [] = refl
+  join_common (ks ∷ ends) = ap (λ b. cond b (Some ks) None) (all_same ks ends)
 
-abbrev first_end : List (Option Keys) → Option Keys
-first_end [] = None
-first_end (None ∷ es) = first_end es
-first_end (Some ks ∷ es) = Some ks
+none_left : (ts : List (Option ℕ)) → undeclared_empty ts [] ≡ true
+none_left [] = refl
+none_left (None ∷ ts) = none_left ts
+none_left (Some t ∷ ts) = none_left ts
 
-joins : (es : List (Option Keys)) → join (somes es) ≡ joined_by es (first_end es)
-joins [] = refl
-joins (None ∷ es) = joins es ∙ skips (first_end es)
+no_bytes : (n : ℕ) (bs : List ℕ) → n ≤ length bs → empty (take n bs) ≡ eqb n 0
+no_bytes zero bs le = refl
+no_bytes (suc n) [] le = absurd (omega arith)
+no_bytes (suc n) (b ∷ bs) le = sym (other_numbers (suc n) 0 (λ e. omega arith))
+
+pub spare_where : (ts : List (Option ℕ)) (ns : List ℕ) (p : ℕ) (bs : List ℕ) → total ns ≤ length bs → undeclared_empty ts (cut p bs ns) ≡ all_spare ts ns
+spare_where [] ns p bs le = refl
+spare_where (None ∷ ts) [] p bs le = none_left ts
+spare_where (Some t ∷ ts) [] p bs le = none_left ts
+spare_where (None ∷ ts) (n ∷ ns) p bs le = λ i. no_bytes n bs (omega arith) i && spare_where ts ns (p + n) (drop n bs) (omega (arith, length-drop n bs)) i
+spare_where (Some t ∷ ts) (n ∷ ns) p bs le = spare_where ts ns (p + n) (drop n bs) (omega (arith, length-drop n bs))
+
+-- One by one
+
+pub common_first : {X : Type 0} (test : X → X → Bool) (xs : List X) (x : X) (r : Bool) → 0 < length xs → x ≡ get_or xs 0 x → r ≡ list_all (λ y. test y x) (drop 1 xs) → common_by test xs ≡ then_some r x
+common_first test [] x r lt e q = absurd (omega arith)
+common_first test (y ∷ ys) x r lt e q = ap (λ z. cond (list_all (λ v. test v z) ys) (Some z) None) (sym e) ∙ ap (λ b. cond b (Some x) None) (sym q) ∙ by r
   where
-    skips : (o : Option Keys) → joined_by es o ≡ joined_by (None ∷ es) o
-    skips None = refl
-    skips (Some ks) = refl
-joins (Some ks ∷ es) =
-    ap (λ b. cond b (Some ks) None) (sym (ap (λ b. b && all_ended ks es) (same_self ks) ∙ all_somes ks es))
-
-first_of_four : (a b c d : Option Keys) → first_end (a ∷ b ∷ c ∷ d ∷ []) ≡ option_or (option_or (option_or a b) c) d
-first_of_four (Some x) b c d = refl
-first_of_four None (Some x) c d = refl
-first_of_four None None (Some x) d = refl
-first_of_four None None None (Some x) = refl
-first_of_four None None None None = refl
-
-pub join_four : (a b c d : Option Keys) → join (somes (a ∷ b ∷ c ∷ d ∷ [])) ≡ joined_by (a ∷ b ∷ c ∷ d ∷ []) (option_or (option_or (option_or a b) c) d)
-join_four a b c d = joins (a ∷ b ∷ c ∷ d ∷ []) ∙ ap (joined_by (a ∷ b ∷ c ∷ d ∷ [])) (first_of_four a b c d)
+    by : (b : Bool) → cond b (Some x) None ≡ then_some b x
+    by true = refl
+    by false = refl

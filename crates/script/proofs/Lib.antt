@@ -1,11 +1,13 @@
 pub mod Firsts
 pub mod Testing
 pub mod Joining
+pub mod Cutting
 pub mod Handing
 pub mod Looking
 pub mod Walking
-pub mod Lying
 pub mod Turns
+pub mod Mapped
+pub mod Bound
 pub mod Headers
 pub mod Mains
 pub mod Placed

@@ -1,11 +1,11 @@
 -- A part of the code at its place in the script, and the definition's reading of it.
-use Rattle.std.proofs.Common.{◌≡◌, ℕ, ◌+◌, ◌<◌, ◌≤◌, Bool, true, false, ◌&&◌, eqb, ltb, leb, ◌≢◌, List, length, get_or, take, drop, Ok, Err, sym, ap, ◌∙◌, drop-drop, le-ltb}
+use Rattle.std.proofs.Common.{◌≡◌, ℕ, ◌+◌, ◌<◌, ◌≤◌, Bool, true, false, ◌&&◌, eqb, ltb, leb, List, map, length, get_or, take, drop, Ok, Err, sym, ap, ◌∙◌, drop-drop, le-ltb}
 use borrow.Author.Tests.{lt-leb}
 use Rattle.faults.specs.declared.causes.LayoutCause.TheVariants.{NoPart, BadHeader}
 use Rattle.faults.specs.Numbers.{layout_fault}
 use Rattle.faults.proofs.Results.{met}
 use Rattle.protocol.specs.Lists.{all}
-use Rattle.protocol.proofs.Tests.{and_true, equal_numbers, other_numbers, is_less, is_at_most}
+use Rattle.protocol.proofs.Tests.{and_true, equal_numbers, is_less, is_at_most}
 use Rattle.book.specs.Kinds.{Kind}
 use Rattle.rules.specs.Lists.{from, word}
 use Rattle.rules.specs.Script as rules
@@ -25,12 +25,6 @@ abbrev pub in_order : List Kind → ℕ → rules.Part → List ℕ → Bool
 in_order book k p bs = ltb k 16 && (header_fits book p && leb (28 + word bs 26) (length bs))
 
 module _ (bs : List ℕ) where
-  pub no_header : length bs < 28 → marked bs ≡ false
-  no_header lt = left_fails (eqb (get_or bs 0 0) 0x10) (lt-leb 28 (length bs) lt)
-
-  pub other_mark : get_or bs 0 0 ≢ 0x10 → marked bs ≡ false
-  other_mark ne = right_fails (leb 28 (length bs)) (other_numbers (get_or bs 0 0) 0x10 ne)
-
   pub has_mark : 28 ≤ length bs → get_or bs 0 0 ≡ 0x10 → marked bs ≡ true
   has_mark le e = and_true (is_at_most le) (equal_numbers e)
 
@@ -51,9 +45,6 @@ module _ (book : List Kind) (k : ℕ) (p : rules.Part) (bs : List ℕ) where
   is_in_order lt e le = and_true (is_less lt) (and_true e (is_at_most le))
 
 module _ (book : List Kind) (k at : ℕ) (bs : List ℕ) where
-  pub no_mark : marked bs ≡ false → read_part book k at bs ≡ Err (layout_fault NoPart at)
-  no_mark e = unmet (marked bs) (layout_fault NoPart at) _ e
-
   pub out_of_order : marked bs ≡ true → in_order book k (part_from at bs) bs ≡ false → read_part book k at bs ≡ Err (layout_fault BadHeader at)
   out_of_order e f = met (marked bs) (layout_fault NoPart at) _ e ∙ unmet (in_order book k (part_from at bs) bs) (layout_fault BadHeader at) _ f
 
@@ -62,10 +53,10 @@ module _ (book : List Kind) (k at : ℕ) (bs : List ℕ) where
 
 -- the part has what the bytes begin with
 pub record Copied (bs : List ℕ) (p : Part) : Type 0 where
-  pub handles : p.handles ≡ get_or bs 1 0
-  pub kinds : p.kinds ≡ thirds 8 (drop 2 bs)
-  pub ins : p.ins ≡ thirds 8 (drop 3 bs)
-  pub outs : p.outs ≡ thirds 8 (drop 4 bs)
+  pub own : p.own ≡ get_or bs 1 0
+  pub kinds : map (λ h. h.kind) p.handles ≡ thirds 8 (drop 2 bs)
+  pub ins : map (λ h. h.enters) p.handles ≡ thirds 8 (drop 3 bs)
+  pub outs : map (λ h. h.leaves) p.handles ≡ thirds 8 (drop 4 bs)
   pub len : p.len ≡ word bs 26
 
 module _ (book : List Kind) (k : ℕ) (bs : List ℕ) (p : Part) (rest : List ℕ) (e : rest ≡ drop p.place bs) (w : Copied rest p) where
@@ -74,7 +65,7 @@ module _ (book : List Kind) (k : ℕ) (bs : List ℕ) (p : Part) (rest : List �
       let behind : drop (p.place + 28) bs ≡ drop 28 rest = sym (drop-drop 28 p.place bs) ∙ ap (drop 28) (sym e) in
       λ i. record {
         place = p.place;
-        handles = w.handles i;
+        handles = w.own i;
         kinds = w.kinds i;
         ins = w.ins i;
         outs = w.outs i;

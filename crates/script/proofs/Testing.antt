@@ -1,5 +1,7 @@
 -- The tests of lists that the check makes, and what std's answer for them.
-use Rattle.std.proofs.Common.{◌≡◌, ℕ, ◌<◌, Bool, true, eqb, List, length, Decides, sym, ◌∙◌, subst}
+use Rattle.std.proofs.Common.{◌≡◌, ℕ, ◌<◌, Bool, true, ◌&&◌, eqb, List, [], ◌∷◌, length, Decides, sym, refl, ap, ◌∙◌, subst}
+use lib.Pointwise.{pointwise}
+use Rattle.std.proofs.lemmas.Slice.Eq.{slice_eq-Decides}
 use Rattle.std.specs.List.{HoldsAt, IsAnyAnswer}
 use Rattle.std.proofs.lemmas.List.Elements.{contains_decides}
 use Rattle.std.proofs.lemmas.List.{get_or_default}
@@ -18,3 +20,14 @@ has_decides n xs = (
 
 pub contains_has : (xs : List ℕ) (n : ℕ) (r : Bool) → IsAnyAnswer (λ y t. eqb y n ≡ t) xs r → r ≡ has n xs
 contains_has xs n r h = same_from_decides r (has n xs) (contains_decides eqb Decides-eqb xs n r h) (has_decides n xs)
+
+pub same_pointwise : (xs ys : List ℕ) → pointwise eqb xs ys ≡ same xs ys
+same_pointwise [] [] = refl
+same_pointwise [] (y ∷ ys) = refl
+same_pointwise (x ∷ xs) [] = refl
+same_pointwise (x ∷ xs) (y ∷ ys) = ap (λ b. eqb x y && b) (same_pointwise xs ys)
+
+pub same_turned : (xs ys : List ℕ) → pointwise eqb ys xs ≡ same xs ys
+same_turned xs ys =
+    let d = slice_eq-Decides Decides-eqb ys xs (pointwise eqb ys xs) refl in
+    same_from_decides (pointwise eqb ys xs) (same xs ys) (λ e. sym (d.0 e), λ e. d.1 (sym e)) (same_decides xs ys)

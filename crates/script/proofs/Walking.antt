@@ -1,23 +1,25 @@
 -- The laws of the check of a block: by its first command and the rest.
-use Rattle.std.proofs.Common.{◌≡◌, ℕ, suc, ◌≤◌, true, false, ◌||◌, List, [], ◌∷◌, length, get_or, set, is_some, Some, None, Ok, Err, Option, Result, sym, refl, ap, ◌∙◌, arith}
+use Rattle.std.proofs.Common.{◌≡◌, ℕ, suc, ◌+◌, ◌<◌, ◌≤◌, true, false, List, [], ◌∷◌, ◌++◌, length, get_or, drop, Ok, Err, Option, Result, sym, refl, ap, ◌∙◌, true≢false, arith, drop-cons}
 use Rattle.faults.specs.declared.fault.Fault.{Fault}
 use Rattle.faults.specs.declared.causes.LayoutCause.TheVariants.{BadCommand, OutOfRange, TooDeep}
 use Rattle.faults.specs.declared.causes.KeyCause.TheVariants.{NotAllowed, UndeclaredBlock, EndsDiffer, BodyEnd}
 use Rattle.faults.specs.Numbers.{layout_fault, key_fault}
 use Rattle.faults.specs.Results.{◌>>=◌, need}
-use Rattle.faults.proofs.Results.{ok_same, bound, follows, met}
+use Rattle.faults.proofs.Results.{follows, met}
 use Rattle.protocol.specs.Tables.{allowed, successors}
 use Rattle.rules.specs.Lists.{same}
-use Rattle.rules.specs.Script.{Block, Command, Read, broken, nothing, command, first, Scope, Keys, at, table_at, in_range, depth_fits}
-use Rattle.rules.specs.Check.{branches, check_body, check_read, check_whole, command_keys, join, or_fault, undeclared_empty}
+use Rattle.rules.specs.Script.{Block, Command, Read, broken, nothing, command, first, Scope, Keys, at, table_at, in_range, depth_fits, cut, send, ask, repeat, run, store, dec, cue, fail}
+use Rattle.rules.specs.Check.{Checks, branches, check_body, check_read, check_whole, command_keys, join, or_fault, undeclared_empty}
 use Rattle.rules.proofs.Fuel.{unrolls}
 use Rattle.rules.proofs.Reading.{no_first}
-use Rattle.script.specs.declared.answers.ByAnswer.{ByAnswer}
 use Rattle.script.specs.declared.command.Command as code
-use Rattle.script.specs.Commands.{said}
-use Rattle.script.specs.Ends.{somes}
-use Rattle.script.specs.Pieces.{listed}
-use Rattle.script.specs.Walk.{ask_keys, block_keys, branch_keys, command_after}
+use Rattle.script.specs.Commands.{in_range_so, said}
+use Rattle.script.specs.declared.blocks.Blocks.{Blocks}
+use Rattle.script.specs.Ends.{all_spare}
+use Rattle.script.specs.Pieces.{pieces, front, past}
+use Rattle.script.specs.Walk.{allowed_at, ask_keys, block_keys, branch_ends, command_after}
+use Rattle.script.proofs.Joining.{spare_where}
+use Rattle.script.proofs.Turns.{needed_first, unmet, stops as carried}
 
 none : (bs : List ℕ) → length bs ≤ 0 → bs ≡ []
 none [] le = refl
@@ -64,50 +66,78 @@ module _ (x : Scope) (d place : ℕ) (c : Command) (ks : Keys) where
       met (in_range x c) (layout_fault OutOfRange place) _ e
       ∙ ap (λ b. need b (layout_fault TooDeep place) >>= (λ _. command_keys (block_keys x (suc d)) x place c ks)) f
 
-  in_place : in_range x c ≡ true → depth_fits d c ≡ true → command_after x d place c ks ≡ command_keys (block_keys x (suc d)) x place c ks
+  pub in_place : in_range x c ≡ true → depth_fits d c ≡ true → command_after x d place c ks ≡ command_keys (block_keys x (suc d)) x place c ks
   unfolding command_after
   in_place e f = met (in_range x c) (layout_fault OutOfRange place) _ e ∙ met (depth_fits d c) (layout_fault TooDeep place) _ f
 
--- a command of the code that is in range and not too deep
-pub settled : (x : Scope) (d place : ℕ) (ks : Keys) (c v : code.Command) → c ≡ v → in_range x (said c) ≡ true → depth_fits d (said c) ≡ true →
-    command_after x d place (said c) ks ≡ command_keys (block_keys x (suc d)) x place (said v) ks
-settled x d place ks c v e r f = in_place x d place (said c) ks r f ∙ ap (λ (w : code.Command). command_keys (block_keys x (suc d)) x place (said w) ks) e
+-- Once the letter is allowed
+
+module _ (check : Checks) (x : Scope) (place h l : ℕ) (ks : Keys) where
+  abbrev pub asked : List Block → List (Option ℕ) → Result Keys Fault
+  asked bs ts = need (undeclared_empty ts bs) (key_fault UndeclaredBlock place) >>= (λ _. branches check ks h ts bs >>= (λ ends. or_fault (join ends) (key_fault EndsDiffer place)))
+
+  pub after_allowed_ask : (bs : List Block) → command_keys check x place (ask h l bs) ks ≡ (allowed_at x place h l ks >>= asked bs)
+  after_allowed_ask bs = needed_first (allowed (table_at x h) (at ks h) l) (key_fault NotAllowed place) (successors (table_at x h) (at ks h) l) (asked bs)
+
+-- a command of the code that is in range
+pub so : (x : Scope) (c v : code.Command) → c ≡ v → in_range_so x (said c) ≡ true → in_range_so x (said v) ≡ true
+so x c v e r = sym (ap (λ (w : code.Command). in_range_so x (said w)) e) ∙ r
+
+pub not_so : (x : Scope) (c : Command) → in_range_so x c ≡ false → in_range x c ≡ false
+not_so x (send h l r) e = e
+not_so x (ask h l bs) e = e
+not_so x (repeat r b) e = e
+not_so x (run p bs) e = absurd (true≢false e)
+not_so x (store r v) e = e
+not_so x (dec r) e = e
+not_so x (cue n) e = e
+not_so x (fail n) e = e
+
+module _ (x : Scope) (d place : ℕ) (ks : Keys) (c v : code.Command) (e : c ≡ v) (fits : in_range x (said v) ≡ true) where
+  r : in_range x (said c) ≡ true
+  r = ap (λ (w : code.Command). in_range x (said w)) e ∙ fits
+
+  pub stands_too_deep : depth_fits d (said v) ≡ false → command_after x d place (said c) ks ≡ Err (layout_fault TooDeep place)
+  stands_too_deep f = too_deep x d place (said c) ks r (ap (λ (w : code.Command). depth_fits d (said w)) e ∙ f)
+
+  pub settled : depth_fits d (said v) ≡ true → command_after x d place (said c) ks ≡ command_keys (block_keys x (suc d)) x place (said v) ks
+  settled f =
+      in_place x d place (said c) ks r (ap (λ (w : code.Command). depth_fits d (said w)) e ∙ f)
+      ∙ ap (λ (w : code.Command). command_keys (block_keys x (suc d)) x place (said w) ks) e
+
+-- an ASK whose answers lead there
+module _ (x : Scope) (d place h l : ℕ) (ks : Keys) (ts : List (Option ℕ)) (bs : Blocks) (e : Ok ts ≡ allowed_at x place h l ks) where
+  is_asked : ask_keys x d place h l (pieces bs) ks ≡ asked (block_keys x d) x place h l ks (pieces bs) ts
+  is_asked = after_allowed_ask (block_keys x d) x place h l ks (pieces bs) ∙ follows (asked (block_keys x d) x place h l ks (pieces bs)) (sym e)
+
+  spare_so : undeclared_empty ts (pieces bs) ≡ all_spare ts bs.lengths
+  spare_so = spare_where ts bs.lengths bs.whole.place bs.whole.bytes.now (omega (arith, bs.exact))
+
+  pub not_spare : all_spare ts bs.lengths ≡ false → ask_keys x d place h l (pieces bs) ks ≡ Err (key_fault UndeclaredBlock place)
+  not_spare f = is_asked ∙ unmet (undeclared_empty ts (pieces bs)) (key_fault UndeclaredBlock place) _ (spare_so ∙ f)
+
+  module _ (spare : all_spare ts bs.lengths ≡ true) where
+    goes_in : ask_keys x d place h l (pieces bs) ks ≡ (branch_ends x d h ts (pieces bs) ks >>= (λ ends. or_fault (join ends) (key_fault EndsDiffer place)))
+    goes_in = is_asked ∙ met (undeclared_empty ts (pieces bs)) (key_fault UndeclaredBlock place) _ (spare_so ∙ spare)
+
+    pub branch_fails : (f : Fault) → branch_ends x d h ts (pieces bs) ks ≡ Err f → ask_keys x d place h l (pieces bs) ks ≡ Err f
+    branch_fails f r = goes_in ∙ carried _ r
+
+    pub branches_end : (ends : List Keys) → branch_ends x d h ts (pieces bs) ks ≡ Ok ends → ask_keys x d place h l (pieces bs) ks ≡ or_fault (join ends) (key_fault EndsDiffer place)
+    branches_end ends r = goes_in ∙ follows (λ ends. or_fault (join ends) (key_fault EndsDiffer place)) r
 
 -- Branches
 
-module _ (x : Scope) (d h : ℕ) (ks : Keys) where
-  -- one answer more, before those whose blocks end so
-  branch_on : (o : Option ℕ) (b : Block) (end : Option Keys) (ts : List (Option ℕ)) (bs : List Block) (ends : List (Option Keys)) →
-      branch_keys x d h ks o b ≡ Ok end → branches (block_keys x (suc d)) ks h ts bs ≡ Ok (somes ends) →
-      branches (block_keys x (suc d)) ks h (o ∷ ts) (b ∷ bs) ≡ Ok (somes (end ∷ ends))
-  branch_on None b end ts bs ends e r = r ∙ ap (λ (v : Option Keys). Ok (somes (v ∷ ends))) (ok_same e)
-  branch_on (Some t) b end ts bs ends e r =
-      let w = bound (block_keys x (suc d) b (set ks h t)) (λ k. Ok (Some k)) end e in
-      follows _ w.1 ∙ follows (λ (v : List Keys). Ok (w.0 ∷ v)) r ∙ ap (λ (v : Option Keys). Ok (somes (v ∷ ends))) (ok_same w.2)
+module _ (check : Checks) (ks : Keys) (h : ℕ) where
+  -- behind those whose blocks end so
+  abbrev pub behind : List Keys → List (Option ℕ) → List Block → Result (List Keys) Fault
+  behind ends ts bs = branches check ks h ts bs >>= (λ more. Ok (ends ++ more))
 
-  four_branches : (to : ByAnswer (Option ℕ)) (b0 b1 b2 b3 : Block) (ends : ByAnswer (Option Keys)) →
-      branch_keys x d h ks to.zero b0 ≡ Ok ends.zero → branch_keys x d h ks to.one b1 ≡ Ok ends.one →
-      branch_keys x d h ks to.two b2 ≡ Ok ends.two → branch_keys x d h ks to.three b3 ≡ Ok ends.three →
-      branches (block_keys x (suc d)) ks h (listed to) (b0 ∷ b1 ∷ b2 ∷ b3 ∷ []) ≡ Ok (somes (listed ends))
-  four_branches to b0 b1 b2 b3 ends e0 e1 e2 e3 =
-      branch_on to.zero b0 ends.zero _ _ _ e0 (branch_on to.one b1 ends.one _ _ _ e1 (branch_on to.two b2 ends.two _ _ _ e2 (branch_on to.three b3 ends.three [] [] [] e3 refl)))
-
-  -- an ASK whose letter is allowed, whose spare blocks are empty, and whose others end so
-  pub asks : (place l : ℕ) (to : ByAnswer (Option ℕ)) (b0 b1 b2 b3 : Block) (ends : ByAnswer (Option Keys)) (end : Option Keys) →
-      listed to ≡ successors (table_at x h) (at ks h) l →
-      (is_some to.zero || (is_some to.one || (is_some to.two || is_some to.three))) ≡ true →
-      undeclared_empty (listed to) (b0 ∷ b1 ∷ b2 ∷ b3 ∷ []) ≡ true →
-      branch_keys x d h ks to.zero b0 ≡ Ok ends.zero → branch_keys x d h ks to.one b1 ≡ Ok ends.one →
-      branch_keys x d h ks to.two b2 ≡ Ok ends.two → branch_keys x d h ks to.three b3 ≡ Ok ends.three →
-      join (somes (listed ends)) ≡ end →
-      ask_keys x d place h l (b0 ∷ b1 ∷ b2 ∷ b3 ∷ []) ks ≡ or_fault end (key_fault EndsDiffer place)
-  asks place l to b0 b1 b2 b3 ends end e some spare e0 e1 e2 e3 j =
-      let ts : List (Option ℕ) = successors (table_at x h) (at ks h) l in
-      let bs : List Block = b0 ∷ b1 ∷ b2 ∷ b3 ∷ [] in
-      let allow : allowed (table_at x h) (at ks h) l ≡ true =
-      ap (λ (v : List (Option ℕ)). is_some (get_or v 0 None) || (is_some (get_or v 1 None) || (is_some (get_or v 2 None) || is_some (get_or v 3 None)))) (sym e) ∙ some in
-      met (allowed (table_at x h) (at ks h) l) (key_fault NotAllowed place) _ allow
-      ∙ met (undeclared_empty ts bs) (key_fault UndeclaredBlock place) _ (ap (λ (v : List (Option ℕ)). undeclared_empty v bs) (sym e) ∙ spare)
-      ∙ follows (λ (v : List Keys). or_fault (join v) (key_fault EndsDiffer place))
-      (ap (λ (v : List (Option ℕ)). branches (block_keys x (suc d)) ks h v bs) (sym e) ∙ four_branches to b0 b1 b2 b3 ends e0 e1 e2 e3)
-      ∙ ap (λ (v : Option Keys). or_fault v (key_fault EndsDiffer place)) j
+  -- the next answer, with its block in front of the others
+  pub turn : (ends : List Keys) (to : List (Option ℕ)) (ns : List ℕ) (n : ℕ) (o : Option ℕ) (len : ℕ) (b : Block) → n < length to → n < length ns → o ≡ get_or to n o → len ≡ get_or ns n len →
+      behind ends (drop n to) (cut b.place b.bytes (drop n ns)) ≡ behind ends (o ∷ drop (n + 1) to) (front len b ∷ cut (past len b).place (past len b).bytes (drop (n + 1) ns))
+  turn ends to ns n o len b lt lt' e e' =
+      let z : suc n ≡ n + 1 = omega arith in
+      let ts : drop n to ≡ o ∷ drop (n + 1) to = drop-cons to n o lt ∙ (λ i. sym e i ∷ drop (z i) to) in
+      let ms : drop n ns ≡ len ∷ drop (n + 1) ns = drop-cons ns n len lt' ∙ (λ i. sym e' i ∷ drop (z i) ns) in
+      λ i. behind ends (ts i) (cut b.place b.bytes (ms i))

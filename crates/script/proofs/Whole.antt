@@ -27,9 +27,6 @@ module _ (book : List Kind) (bs : List ℕ) (short : length bs ≤ 16384) where
   not_too_long : check_script book bs ≡ (all_parts >>= with_main)
   not_too_long = met (leb (length bs) 16384) (layout_fault TooLong nowhere) (λ _. all_parts >>= with_main) (is_at_most short)
 
-  pub no_parts : (e : Fault) → all_parts ≡ Err e → check_script book bs ≡ Err e
-  no_parts e r = not_too_long ∙ stops with_main r
-
   -- the slice holds the parts
   module _ (slice ps : List Part) (same : slice ≡ ps) (r : all_parts ≡ Ok (map (shown bs) ps)) where
     to_main : {c : Result (Unit {0}) Fault} → c ≡ check_main slice → need (main_away (map (shown bs) ps)) (key_fault MainHeld (main_of (map (shown bs) ps)).place) ≡ c

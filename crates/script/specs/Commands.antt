@@ -1,10 +1,11 @@
 -- The commands of the code, and how they are read.
-use Rattle.std.specs.Prelude.{◌≡◌, ℕ, ◌+◌, true, false, [], ◌∷◌, length, Ok, Err, Result, nat_le}
+use Rattle.std.specs.Prelude.{◌≡◌, ℕ, Bool, true, false, List, length, Ok, Err, Result, nat_le}
 use Rattle.faults.specs.declared.fault.Fault.{Fault}
 use Rattle.faults.specs.declared.causes.LayoutCause.TheVariants.{BadCommand}
 use Rattle.faults.specs.Numbers.{layout_fault}
+use Rattle.rules.specs.Lists.{total}
 use Rattle.rules.specs.Script as rules
-use Rattle.rules.specs.Script.{send, ask, repeat, run, store, dec, cue, fail, broken, command}
+use Rattle.rules.specs.Script.{cut, in_range, send, ask, repeat, run, store, dec, cue, fail, broken, command}
 use Rattle.script.specs.declared.block.Block.{Block}
 use Rattle.script.specs.declared.command.Command.{Command}
 use Rattle.script.specs.declared.command.Command.TheVariants.{Send, Ask, Repeat, Run, Set, Dec, Cue, Fail}
@@ -20,18 +21,28 @@ said (Dec r) = dec r
 said (Cue n) = cue n
 said (Fail c) = fail c
 
+-- in range, but for a RUN, of which the part is looked up first
+abbrev pub in_range_so : rules.Scope → rules.Command → Bool
+in_range_so x (send h l r) = in_range x (send h l r)
+in_range_so x (ask h l bs) = in_range x (ask h l bs)
+in_range_so x (repeat r b) = in_range x (repeat r b)
+in_range_so x (run p bs) = true
+in_range_so x (store r v) = in_range x (store r v)
+in_range_so x (dec r) = in_range x (dec r)
+in_range_so x (cue n) = in_range x (cue n)
+in_range_so x (fail c) = in_range x (fail c)
+
 -- what the code reads at the place is what the definition reads
 abbrev pub Gives : ℕ → Result (Command × Block) Fault → rules.Read → Type 0
 Gives place (Ok x) q = q ≡ command (said x.0) (piece x.1)
 Gives place (Err e) q = (q ≡ broken) × (e ≡ layout_fault BadCommand place)
 
 -- an ASK and a REPEAT whose blocks stand in the tail
-abbrev pub ask_at : ℕ → ℕ → ℕ → ℕ → ℕ → ℕ → rules.Block → rules.Read
-ask_at h l n0 n1 n2 n3 tail =
-    elim (nat_le (n0 + n1 + n2 + n3) (length tail.bytes)) [
+abbrev pub ask_at : ℕ → ℕ → List ℕ → rules.Block → rules.Read
+ask_at h l ns tail =
+    elim (nat_le (total ns) (length tail.bytes)) [
       | false ↦ broken
-      | true ↦ command (ask h l (front n0 tail ∷ front n1 (past n0 tail) ∷ front n2 (past n1 (past n0 tail)) ∷ front n3 (past n2 (past n1 (past n0 tail))) ∷ []))
-          (past n3 (past n2 (past n1 (past n0 tail))))
+      | true ↦ command (ask h l (cut tail.place tail.bytes ns)) (past (total ns) tail)
     ]
 
 abbrev pub repeat_at : ℕ → ℕ → rules.Block → rules.Read

@@ -1,13 +1,6 @@
--- By answer: blocks that must be empty, and the keys at the ends of those that are checked.
-use Rattle.std.specs.Prelude.{ℕ, Bool, true, List, [], ◌∷◌, Some, None, Option}
-use Rattle.protocol.specs.Lists.{all}
-use Rattle.rules.specs.Lists.{empty, same}
-use Rattle.rules.specs.Script.{Block, Keys}
-
--- the answer is declared, or its block is empty
-abbrev pub spare : Option ℕ → Block → Bool
-spare (Some t) b = true
-spare None b = empty b.bytes
+-- By answer: stations that are declared, blocks that must be empty, and what values have in common.
+use Rattle.std.specs.Prelude.{ℕ, Bool, cond, ◌||◌, List, [], ◌∷◌, is_some, Some, None, Option, ◌==◌}
+use Rattle.std.specs.List.{list_all, zip}
 
 -- those that there are
 abbrev pub somes : {X : Type 0} → List (Option X) → List X
@@ -15,10 +8,11 @@ somes [] = []
 somes (None ∷ xs) = somes xs
 somes (Some x ∷ xs) = x ∷ somes xs
 
--- it ends with the keys, if it is there
-abbrev pub ended_so : Keys → Option Keys → Bool
-ended_so ks (Some end) = same ks end
-ended_so ks None = true
+-- each answer is declared, or its block has no bytes
+abbrev pub all_spare : List (Option ℕ) → List ℕ → Bool
+all_spare ts ns = list_all (λ p. is_some p.0 || (p.1 == 0)) (zip ts ns)
 
-abbrev pub all_ended : Keys → List (Option Keys) → Bool
-all_ended ks ends = all (ended_so ks) ends
+-- the one value that all of them are
+abbrev pub common_by : {X : Type 0} → (X → X → Bool) → List X → Option X
+common_by same [] = None
+common_by same (x ∷ xs) = cond (list_all (λ y. same y x) xs) (Some x) None

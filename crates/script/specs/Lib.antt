@@ -1,8 +1,10 @@
 pub mod Pieces
-pub mod Commands
 pub mod Parts
+pub mod Scopes
+pub mod Commands
+pub mod Levels
 pub mod Ends
-pub mod Bindings
+pub mod Runs
 pub mod Walk
 pub mod Headers
 pub mod Scripts

@@ -1,24 +1,28 @@
 -- The parts of the code, and where a body is checked.
-use Rattle.std.specs.Prelude.{ℕ, ◌+◌, ◌≤◌, List, map, length, take, drop}
-use Rattle.book.specs.Held.{kinds_held}
+use Rattle.std.specs.Prelude.{ℕ, ◌+◌, ◌≤◌, Bool, ◌&&◌, List, map, length, take, drop, ◌==◌}
+use Rattle.std.specs.List.{list_all}
 use Rattle.rules.specs.Script as rules
+use Rattle.script.specs.declared.part.Handle.{Handle}
 use Rattle.script.specs.declared.part.Part.{Part}
-use Rattle.script.specs.declared.scope.Scope.{Scope}
+
+abbrev pub no_handle : Handle
+no_handle = record { kind = 0; enters = 0; leaves = 0 }
 
 -- the part of a script with these bytes
 abbrev pub shown : List ℕ → Part → rules.Part
 shown bs p = record {
   place = p.place;
-  handles = p.handles;
-  kinds = p.kinds;
-  ins = p.ins;
-  outs = p.outs;
+  handles = p.own;
+  kinds = map (λ h. h.kind) p.handles;
+  ins = map (λ h. h.enters) p.handles;
+  outs = map (λ h. h.leaves) p.handles;
   body = record { place = p.place + 28; bytes = take p.len (drop (p.place + 28) bs) };
 }
 
-abbrev pub scope_of : Scope → rules.Scope
-scope_of s = record { book = kinds_held s.book.now; below = map (shown s.bytes.now) s.below.now; running = shown s.bytes.now s.running }
-
--- its body lies in a script that is not too long
+-- its body lies in the script
 abbrev pub Lies : List ℕ → Part → Type 0
-Lies bs p = (p.place + 28 + p.len ≤ length bs) × (length bs ≤ 16384)
+Lies bs p = p.place + 28 + p.len ≤ length bs
+
+-- every handle is away at both ends
+abbrev pub away : Part → Bool
+away p = list_all (λ h. h.enters == 0 && h.leaves == 0) (take p.own p.handles)

@@ -1,18 +1,16 @@
 -- The parts of a whole script, and its check.
-use Rattle.std.specs.Prelude.{◌≡◌, ℕ, Bool, ◌&&◌, List, [], ◌∷◌, map, length, take, Ok, Err, Result, ◌==◌}
+use Rattle.std.specs.Prelude.{◌≡◌, ℕ, List, [], ◌∷◌, map, length, Ok, Err, Result}
+use Rattle.arrayvec.specs.ArrayVec.{ArrayVec}
 use Rattle.faults.specs.declared.fault.Fault.{Fault}
 use Rattle.faults.specs.declared.causes.KeyCause.TheVariants.{MainHeld}
 use Rattle.faults.specs.Numbers.{key_fault}
 use Rattle.faults.specs.Results.{◌>>=◌, need}
-use Rattle.protocol.specs.Lists.{all}
 use Rattle.book.specs.Kinds.{Kind}
-use Rattle.rules.specs.Lists.{from}
 use Rattle.rules.specs.Script as rules
-use Rattle.rules.specs.Script.{at, read_part}
+use Rattle.rules.specs.Script.{read_part}
 use Rattle.rules.specs.Check.{check_body}
 use Rattle.script.specs.declared.part.Part.{Part}
-use Rattle.script.specs.declared.parts.Parts.{Parts}
-use Rattle.script.specs.Parts.{shown}
+use Rattle.script.specs.Parts.{away, shown}
 
 -- One part
 
@@ -28,13 +26,6 @@ next_part book ps place bs = do
 
 -- Main
 
--- the handle is away at both ends
-abbrev pub away_at : Part → ℕ → Bool
-away_at p h = at p.ins h == 0 && at p.outs h == 0
-
-abbrev pub away : Part → Bool
-away p = all (away_at p) (from 0 p.handles)
-
 -- main is the last of the parts, if there is one, and has its handles away
 abbrev pub check_main : List Part → Result (Unit {0}) Fault
 check_main [] = Ok tt
@@ -43,15 +34,12 @@ check_main (p ∷ q ∷ ps) = check_main (q ∷ ps)
 
 -- All of them
 
-abbrev pub shown_parts : List ℕ → Parts → List rules.Part
-shown_parts bs t = map (shown bs) (take t.count t.items)
-
-abbrev pub GivesParts : List ℕ → Result Parts Fault → Result (List rules.Part) Fault → Type 0
-GivesParts bs (Ok t) q = q ≡ Ok (shown_parts bs t)
+abbrev pub GivesParts : List ℕ → Result (ArrayVec Part) Fault → Result (List rules.Part) Fault → Type 0
+GivesParts bs (Ok t) q = q ≡ Ok (map (shown bs) t.items)
 GivesParts bs (Err e) q = q ≡ Err e
 
-abbrev pub GivesScript : List Kind → List ℕ → Result Parts Fault → Result rules.Script Fault → Type 0
-GivesScript book bs (Ok t) q = q ≡ Ok (record { book = book; parts = shown_parts bs t })
+abbrev pub GivesScript : List Kind → List ℕ → Result (ArrayVec Part) Fault → Result rules.Script Fault → Type 0
+GivesScript book bs (Ok t) q = q ≡ Ok (record { book = book; parts = map (shown bs) t.items })
 GivesScript book bs (Err e) q = q ≡ Err e
 
 abbrev pub parts_of : Result rules.Script Fault → List rules.Part

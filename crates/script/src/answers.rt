@@ -1,8 +1,4 @@
 // Something for each answer, 0 to 3.
-#[derive(Clone, Copy)]
-pub struct ByAnswer<T> {
-    pub zero: T,
-    pub one: T,
-    pub two: T,
-    pub three: T,
-}
+pub const ANSWERS: usize = 4;
+
+pub type ByAnswer<T> = [T; ANSWERS];

@@ -3,11 +3,30 @@ ghost use Rattle.std.specs.Prelude.{◌≡◌, ◌<◌, length};
 ghost use Rattle.rules.specs.Lists.{joined};
 ghost use Rattle.rules.specs.Script.{first};
 ghost use Rattle.script.specs.Commands.{Gives, ask_at, repeat_at};
-ghost use Rattle.script.specs.Pieces.{Within, piece};
+ghost use Rattle.script.specs.Pieces.{piece};
 
 use crate::answers::ByAnswer;
 use crate::block::Block;
+use crate::blocks::{Blocks, total};
+use crate::part::HANDLES;
 use faults::{Fault, Layer, LayoutCause};
+
+// The first byte of a command.
+const SEND: u8 = 0x20;
+
+const ASK: u8 = 0x21;
+
+const REPEAT: u8 = 0x23;
+
+const RUN: u8 = 0x24;
+
+const SET: u8 = 0x25;
+
+const DEC: u8 = 0x26;
+
+const CUE: u8 = 0x27;
+
+const FAIL: u8 = 0x28;
 
 #[derive(Clone, Copy)]
 pub enum Command<'a> {
@@ -19,7 +38,7 @@ pub enum Command<'a> {
     Ask {
         handle: u8,
         letter: u8,
-        blocks: ByAnswer<Block<'a>>,
+        blocks: Blocks<'a>,
     },
     Repeat {
         register: u8,
@@ -27,7 +46,7 @@ pub enum Command<'a> {
     },
     Run {
         part: u8,
-        bindings: [u8; 8],
+        bindings: [u8; HANDLES],
     },
     Set {
         register: u8,
@@ -48,7 +67,7 @@ pub enum Command<'a> {
 pub(crate) fn word(low: u8, high: u8) -> u16
     ensures { result ≡ joined low high }
 {
-    low as u16 + 256 * high as u16
+    u16::from_le_bytes([low, high])
 }
 
 // An ASK at the place, whose blocks begin where the tail does.
@@ -59,26 +78,14 @@ fn read_ask<'a>(
     lengths: ByAnswer<u16>,
     tail: Block<'a>,
 ) -> Result<(Command<'a>, Block<'a>), Fault>
-    requires { Within (piece tail) }
-    ensures { Gives place result (ask_at handle letter lengths.zero lengths.one lengths.two lengths.three (piece tail.entry)) }
+    ensures { Gives place result (ask_at handle letter lengths (piece tail.entry)) }
 {
-    let total = lengths.zero as usize
-        + lengths.one as usize
-        + lengths.two as usize
-        + lengths.three as usize;
-    if total > tail.bytes.len() {
+    let len = total(&lengths);
+    if len > tail.bytes.len() {
         return Err(LayoutCause::BadCommand.at(place));
     }
-    let (zero, tail) = tail.cut(lengths.zero);
-    let (one, tail) = tail.cut(lengths.one);
-    let (two, tail) = tail.cut(lengths.two);
-    let (three, rest) = tail.cut(lengths.three);
-    let blocks = ByAnswer {
-        zero,
-        one,
-        two,
-        three,
-    };
+    let (whole, rest) = tail.cut(len as u16);
+    let blocks = Blocks { lengths, whole };
     Ok((
         Command::Ask {
             handle,
@@ -95,7 +102,6 @@ fn read_repeat<'a>(
     len: u16,
     tail: Block<'a>,
 ) -> Result<(Command<'a>, Block<'a>), Fault>
-    requires { Within (piece tail) }
     ensures { Gives place result (repeat_at register len (piece tail.entry)) }
 {
     if len as usize > tail.bytes.len() {
@@ -107,25 +113,21 @@ fn read_repeat<'a>(
 
 // The first command of a block that is not empty, and the rest.
 pub(crate) fn read_command<'a>(block: Block<'a>) -> Result<(Command<'a>, Block<'a>), Fault>
-    requires within { Within (piece block) }
-    requires some { 0 < length (piece block).bytes }
+    requires { 0 < length (piece block).bytes }
     ensures { Gives block.entry.place result (first (piece block.entry)) }
 {
     let place = block.place;
     match block.bytes {
-        [0x20, handle, letter, register, rest @ ..] => Ok((
+        [SEND, handle, letter, register, rest @ ..] => Ok((
             Command::Send {
                 handle: *handle,
                 letter: *letter,
                 register: *register,
             },
-            Block {
-                bytes: rest,
-                place: place + 4,
-            },
+            block.behind(rest),
         )),
         [
-            0x21,
+            ASK,
             handle,
             letter,
             a0,
@@ -141,73 +143,44 @@ pub(crate) fn read_command<'a>(block: Block<'a>) -> Result<(Command<'a>, Block<'
             place,
             *handle,
             *letter,
-            ByAnswer {
-                zero: word(*a0, *a1),
-                one: word(*b0, *b1),
-                two: word(*c0, *c1),
-                three: word(*d0, *d1),
-            },
-            Block {
-                bytes: tail,
-                place: place + 11,
-            },
+            [
+                word(*a0, *a1),
+                word(*b0, *b1),
+                word(*c0, *c1),
+                word(*d0, *d1),
+            ],
+            block.behind(tail),
         ),
-        [0x23, register, w0, w1, tail @ ..] => {
-            read_repeat(
-                place,
-                *register,
-                word(*w0, *w1),
-                Block {
-                    bytes: tail,
-                    place: place + 4,
-                },
-            )
+        [REPEAT, register, w0, w1, tail @ ..] => {
+            read_repeat(place, *register, word(*w0, *w1), block.behind(tail))
         }
-        [0x24, part, b0, b1, b2, b3, b4, b5, b6, b7, rest @ ..] => Ok((
+        [RUN, part, b0, b1, b2, b3, b4, b5, b6, b7, rest @ ..] => Ok((
             Command::Run {
                 part: *part,
                 bindings: [*b0, *b1, *b2, *b3, *b4, *b5, *b6, *b7],
             },
-            Block {
-                bytes: rest,
-                place: place + 10,
-            },
+            block.behind(rest),
         )),
-        [0x25, register, value, rest @ ..] => Ok((
+        [SET, register, value, rest @ ..] => Ok((
             Command::Set {
                 register: *register,
                 value: *value,
             },
-            Block {
-                bytes: rest,
-                place: place + 3,
-            },
+            block.behind(rest),
         )),
-        [0x26, register, rest @ ..] => Ok((
+        [DEC, register, rest @ ..] => Ok((
             Command::Dec {
                 register: *register,
             },
-            Block {
-                bytes: rest,
-                place: place + 2,
-            },
+            block.behind(rest),
         )),
-        [0x27, w0, w1, rest @ ..] => Ok((
+        [CUE, w0, w1, rest @ ..] => Ok((
             Command::Cue {
                 number: word(*w0, *w1),
             },
-            Block {
-                bytes: rest,
-                place: place + 3,
-            },
+            block.behind(rest),
         )),
-        [0x28, code, rest @ ..] => Ok((
-            Command::Fail { code: *code },
-            Block {
-                bytes: rest,
-                place: place + 2,
-            },
-        )),
+        [FAIL, code, rest @ ..] => Ok((Command::Fail { code: *code }, block.behind(rest))),
         _ => Err(LayoutCause::BadCommand.at(place)),
     }
 }

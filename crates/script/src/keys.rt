@@ -1,55 +1,50 @@
 // Key sets: by handle, eight stations. They go by value, so that each branch has its own copy.
-ghost use Rattle.std.specs.Prelude.{◌≡◌, slice_index, slice_set};
-ghost use Rattle.rules.specs.Lists.{distinct as distinct_in, same};
+ghost use Rattle.std.specs.Prelude.{◌≡◌, map, slice_index, slice_set};
+ghost use Rattle.rules.specs.Lists.{distinct as distinct_in};
 ghost use Rattle.rules.specs.Script.{hand_over};
 
-pub type Keys = [u8; 8];
+use crate::part::{HANDLES, Handle};
 
-// What stands for a handle; 0 beyond the last.
-pub(crate) fn at(items: &[u8], handle: u8) -> u8
-    ensures { result ≡ slice_index items.now handle }
+pub type Keys = [u8; HANDLES];
+
+// The station of a handle; 0 beyond the last.
+pub(crate) fn at(keys: &Keys, handle: u8) -> u8
+    ensures { result ≡ slice_index keys.now handle }
 {
-    if (handle as usize) < items.len() {
-        items[handle as usize]
-    } else {
-        0
-    }
+    keys.get(handle as usize).copied().unwrap_or(0)
 }
 
 // The keys with one handle at another station.
 pub(crate) fn moved(mut keys: Keys, handle: u8, to: u8) -> Keys
     ensures { result ≡ slice_set keys handle to }
 {
+    // After `get_mut` of an array a proof knows no element of it.
     if (handle as usize) < keys.len() {
         keys[handle as usize] = to;
     }
     keys
 }
 
-pub(crate) fn same_keys(a: Keys, b: Keys) -> bool
-    ensures { result ≡ same a b }
-{
-    a == b
-}
-
 // Whether no handle is bound twice.
 pub(crate) fn distinct(bound: &[u8]) -> bool
     ensures { result ≡ distinct_in bound.now }
 {
+    // Each against those behind it: a chain would have to cut the tails by index.
     match bound {
         [first, rest @ ..] => !rest.contains(first) && distinct(rest),
         [] => true,
     }
 }
 
-// The bound handles go to the stations given for them.
-pub(crate) fn hand_over(keys: Keys, bound: &[u8], outs: &[u8]) -> Keys
-    ensures { result ≡ hand_over keys bound.now outs.now }
+// The bound handles go to the stations at which those of a part end.
+pub(crate) fn hand_over(keys: Keys, bound: &[u8], handles: &[Handle]) -> Keys
+    ensures { result ≡ hand_over keys bound.now (map (λ h. h.leaves) handles.now) }
 {
-    match (bound, outs) {
-        ([handle, bound @ ..], [to, outs @ ..]) => {
-            hand_over(moved(keys, *handle, *to), bound, outs)
-        }
-        _ => keys,
+    let mut handed = keys;
+    for (binding, handle) in bound.iter().zip(handles) {
+        // A call's result is not laid straight in an array that a loop keeps.
+        let next = moved(handed, *binding, handle.leaves);
+        handed = next;
     }
+    handed
 }

@@ -2,14 +2,16 @@
 #![tactic(auto)]
 
 mod answers;
-mod bindings;
 mod block;
+mod blocks;
 mod command;
+mod draft;
 mod header;
 mod keys;
+mod level;
 mod part;
-mod parts;
 mod reader;
+mod run;
 mod scope;
 mod script;
 mod successors;

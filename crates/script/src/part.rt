@@ -1,18 +1,97 @@
 // Parts of a script.
 ghost use Rattle.std.specs.Prelude.{◌≤◌};
 
+use crate::keys::Keys;
+use arrayvec::ArrayVec;
+use protocol::AWAY;
+
+// The most handles of a part.
+pub const HANDLES: usize = 8;
+// Stands for a handle beyond those of a part, in a header and in bindings.
+pub(crate) const NONE: u8 = 255;
+
+// Its kind, and its stations where the body begins and ends.
+#[derive(Clone, Copy, PartialEq, Eq, Default)]
+pub struct Handle {
+    pub kind: u8,
+    pub enters: u8,
+    pub leaves: u8,
+}
+
 // A part by its header: its body stands behind that in the script.
-// Beyond the handles of the part, kinds and stations are 255.
 #[derive(Clone, Copy)]
 pub struct Part {
     pub place: u16,
-    pub handles: u8,
-    pub kinds: [u8; 8],
-    pub ins: [u8; 8],
-    pub outs: [u8; 8],
+    // how many of the handles are its own
+    pub own: u8,
+    // A header has eight in any case, so no count of items is kept beside a buffer here.
+    pub handles: [Handle; HANDLES],
     // of the body
     pub len: u16,
-    ghost few: { handles ≤ 8 },
+    ghost few: { own ≤ 8 },
 }
 
-mod body;
+// The most parts of a script.
+pub const MOST_PARTS: usize = 16;
+
+// By number.
+pub type Parts = ArrayVec<Part, MOST_PARTS>;
+
+impl Default for Part {
+    fn default() -> Part {
+        Part {
+            place: 0,
+            own: 0,
+            handles: [Handle::default(); HANDLES],
+            len: 0,
+        }
+    }
+}
+
+impl Part {
+    ghost use Rattle.std.specs.Prelude.{◌≡◌, map, slice_index, slice_index_or, take};
+    ghost use Rattle.script.specs.Parts.{away, no_handle};
+
+    pub(crate) fn own_handles(&self) -> &[Handle]
+        ensures { result.now ≡ take self.now.own self.now.handles }
+    {
+        &self.handles[..self.own as usize]
+    }
+
+    // The handle of that number, or one of zeros.
+    fn handle(&self, number: u8) -> Handle
+        ensures { result ≡ slice_index_or self.now.handles number no_handle }
+    {
+        self.handles
+            .get(number as usize)
+            .copied()
+            .unwrap_or_default()
+    }
+
+    pub(crate) fn kind(&self, number: u8) -> u8
+        ensures { result ≡ slice_index (map (λ h. h.kind) self.now.handles) number }
+    {
+        self.handle(number).kind
+    }
+
+    pub(crate) fn stations_in(&self) -> Keys
+        ensures { result ≡ map (λ h. h.enters) self.now.handles }
+    {
+        self.handles.map(|handle| handle.enters)
+    }
+
+    pub(crate) fn stations_out(&self) -> Keys
+        ensures { result ≡ map (λ h. h.leaves) self.now.handles }
+    {
+        self.handles.map(|handle| handle.leaves)
+    }
+
+    // Every handle is away at both ends.
+    pub(crate) fn is_away(&self) -> bool
+        ensures { result ≡ away self.now }
+    {
+        self.own_handles()
+            .iter()
+            .all(|handle| handle.enters == AWAY && handle.leaves == AWAY)
+    }
+}

@@ -1,60 +1,74 @@
 // Where a body is checked.
-ghost use Rattle.std.specs.Prelude.{◌≡◌};
-ghost use Rattle.std.specs.List.{slice_get};
-ghost use Rattle.protocol.specs.Tables.{successors as successors_of};
-ghost use Rattle.rules.specs.Script.{in_range as in_range_of, table_at};
-ghost use Rattle.script.specs.Commands.{said};
-ghost use Rattle.script.specs.Parts.{scope_of};
-ghost use Rattle.script.specs.Pieces.{listed};
+ghost use Rattle.std.specs.Prelude.{◌+◌, ◌≤◌, length};
 
-use crate::answers::ByAnswer;
-use crate::bindings::all_fit;
+use crate::block::Block;
 use crate::command::Command;
-use crate::keys::at;
-use crate::part::Part;
+use crate::draft::Draft;
+use crate::header::HEADER;
+use crate::part::{HANDLES, Part};
+use crate::run::Run;
 use crate::successors::Successors;
-use book::Book;
 use protocol::LETTERS;
 
 // Registers are 0 to 7.
 const REGISTERS: u8 = 8;
 
-// In a part of the script, behind the parts below it, over the book.
+// In a part of the draft, behind the parts below it.
 #[derive(Clone, Copy)]
 pub struct Scope<'a> {
-    pub book: &'a Book<'a>,
-    // of the whole script
-    pub bytes: &'a [u8],
+    pub draft: Draft<'a>,
     pub below: &'a [Part],
     pub running: Part,
+    ghost lies: { running.place + 28 + running.len ≤ length draft.bytes.now },
 }
 
-impl Scope<'_> {
-    // Where each answer to a letter leads the device of a handle.
-    pub(crate) fn successors(&self, handle: u8, station: u8, letter: u8) -> Successors
-        ensures { listed result ≡ successors_of (table_at (scope_of self.now) handle) station letter }
+impl<'a> Scope<'a> {
+    ghost use Rattle.std.specs.Prelude.{◌≡◌};
+    ghost use Rattle.protocol.specs.Tables.{successors as successors_of};
+    ghost use Rattle.rules.specs.Script.{table_at};
+    ghost use Rattle.script.specs.Commands.{in_range_so, said};
+    ghost use Rattle.script.specs.Pieces.{piece};
+    ghost use Rattle.script.specs.Scopes.{IsRun, scope_of};
+
+    // The body of the running part.
+    pub(crate) fn body(&self) -> Block<'a>
+        ensures { piece result ≡ (scope_of self.now).running.body }
     {
-        let kind = at(&self.running.kinds, handle);
-        ByAnswer {
-            zero: self.book.edge(kind, station, letter, 0),
-            one: self.book.edge(kind, station, letter, 1),
-            two: self.book.edge(kind, station, letter, 2),
-            three: self.book.edge(kind, station, letter, 3),
+        let place = self.running.place + HEADER;
+        let end = place + self.running.len;
+        Block {
+            bytes: &self.draft.bytes[place as usize..end as usize],
+            place,
         }
     }
 
-    // A part that may be run.
-    pub(crate) fn part(&self, number: u8) -> Option<Part>
-        ensures { result ≡ slice_get self.now.below.now number }
+    // Where each answer to a letter leads the device of a handle.
+    pub(crate) fn successors(&self, handle: u8, station: u8, letter: u8) -> Successors
+        ensures { result ≡ successors_of (table_at (scope_of self.now) handle) station letter }
     {
-        self.below.get(number as usize).copied()
+        let kind = self.running.kind(handle);
+        let book = self.draft.book;
+        [0, 1, 2, 3].map(|answer| book.edge(kind, station, letter, answer))
     }
 
-    // The operands of a command are in their ranges.
-    pub(crate) fn in_range(&self, command: &Command) -> bool
-        ensures { result ≡ in_range_of (scope_of self.now) (said command.now) }
+    // The RUN of a part that may be run, with bindings that fit.
+    pub(crate) fn run(&self, number: u8, bindings: [u8; HANDLES]) -> Option<Run<'_>>
+        ensures { IsRun self.now number bindings result }
     {
-        let handles = self.running.handles;
+        let part = self.below.get(number as usize)?;
+        let run = Run {
+            running: &self.running,
+            part,
+            bindings,
+        };
+        run.fits().then_some(run)
+    }
+
+    // The operands of a command are in their ranges, but for a RUN, of which the part is looked up first.
+    pub(crate) fn in_range(&self, command: &Command) -> bool
+        ensures { result ≡ in_range_so (scope_of self.now) (said command.now) }
+    {
+        let handles = self.running.own;
         match command {
             Command::Send {
                 handle,
@@ -62,14 +76,10 @@ impl Scope<'_> {
                 register,
             } => *handle < handles && *letter < LETTERS && *register < REGISTERS,
             Command::Ask { handle, letter, .. } => *handle < handles && *letter < LETTERS,
-            Command::Run { part, bindings } => match self.part(*part) {
-                Some(part) => all_fit(bindings, part.handles, handles),
-                None => false,
-            },
             Command::Repeat { register, .. }
             | Command::Set { register, .. }
             | Command::Dec { register } => *register < REGISTERS,
-            Command::Cue { .. } | Command::Fail { .. } => true,
+            Command::Run { .. } | Command::Cue { .. } | Command::Fail { .. } => true,
         }
     }
 }

@@ -1,90 +1,48 @@
-// Where the answers to a letter lead, and the ends of their blocks.
-ghost use Rattle.std.specs.Prelude.{◌≡◌, ◌||◌, is_some};
-ghost use Rattle.rules.specs.Check.{agreed as agreed_of, agrees as agrees_with, join as join_of, undeclared_empty};
-ghost use Rattle.script.specs.Ends.{all_ended, ended_so, somes, spare as spare_at};
-ghost use Rattle.script.specs.Pieces.{listed, piece, pieces};
+// Where the answers to a letter lead, and what values have in common.
+ghost use Rattle.std.specs.Prelude.{◌≡◌, is_some};
+ghost use Rattle.std.specs.List.{list_any};
+ghost use Rattle.script.specs.Ends.{all_spare, common_by, somes};
 
-use crate::answers::ByAnswer;
-use crate::block::Block;
-use crate::keys::{Keys, same_keys};
+use crate::answers::{ANSWERS, ByAnswer};
+use arrayvec::ArrayVec;
 
 // By answer, the station to which it leads, if it is declared.
 pub type Successors = ByAnswer<Option<u8>>;
 
-pub(crate) fn some_declared(to: Successors) -> bool
-    ensures { result ≡ (is_some to.zero || (is_some to.one || (is_some to.two || is_some to.three))) }
+pub(crate) fn some_declared(to: &Successors) -> bool
+    ensures { result ≡ list_any is_some to.now }
 {
-    to.zero.is_some() || to.one.is_some() || to.two.is_some() || to.three.is_some()
+    to.iter().any(|to| to.is_some())
 }
 
-fn agrees(station: u8, to: Option<u8>) -> bool
-    ensures { result ≡ agrees_with station to }
+// The stations to which the declared answers lead.
+pub(crate) fn declared(to: &Successors) -> ArrayVec<u8, ANSWERS>
+    ensures { result.items ≡ somes to.now }
 {
-    match to {
-        Some(other) => other == station,
-        None => true,
+    let mut stations = ArrayVec::new();
+    for to in to {
+        if let Some(station) = to {
+            stations.push(*station);
+        }
     }
+    stations
 }
 
-// The one station to which all the declared answers lead.
-pub(crate) fn agreed(to: Successors) -> Option<u8>
-    ensures { result ≡ agreed_of (listed to) }
+// The block of an answer that is not declared is empty.
+pub(crate) fn undeclared_empty(to: &Successors, lengths: &ByAnswer<u16>) -> bool
+    ensures { result ≡ all_spare to.now lengths.now }
 {
-    let station = to.zero.or(to.one).or(to.two).or(to.three)?;
-    if agrees(station, to.zero)
-        && agrees(station, to.one)
-        && agrees(station, to.two)
-        && agrees(station, to.three)
-    {
-        Some(station)
-    } else {
-        None
-    }
+    to.iter()
+        .zip(lengths)
+        .all(|(to, len)| to.is_some() || *len == 0)
 }
 
-// The answer is declared, or its block is empty.
-fn spare(to: Option<u8>, block: Block) -> bool
-    ensures { result ≡ spare_at to (piece block.entry) }
+// The one value that all of them are, if there are any.
+pub(crate) fn common<T: Copy + PartialEq>(items: &[T]) -> Option<T>
+    ensures { result ≡ common_by T.eq items.now }
 {
-    to.is_some() || block.bytes.is_empty()
-}
-
-pub(crate) fn undeclared_empty(to: Successors, blocks: ByAnswer<Block>) -> bool
-    ensures { result ≡ undeclared_empty (listed to) (pieces blocks.entry) }
-{
-    spare(to.zero, blocks.zero)
-        && spare(to.one, blocks.one)
-        && spare(to.two, blocks.two)
-        && spare(to.three, blocks.three)
-}
-
-// A block that is not there ends with any keys.
-fn ended(keys: Keys, end: Option<Keys>) -> bool
-    ensures { result ≡ ended_so keys end }
-{
-    match end {
-        Some(other) => same_keys(keys, other),
-        None => true,
-    }
-}
-
-fn all_ended(keys: Keys, ends: ByAnswer<Option<Keys>>) -> bool
-    ensures { result ≡ all_ended keys (listed ends) }
-{
-    ended(keys, ends.zero)
-        && ended(keys, ends.one)
-        && ended(keys, ends.two)
-        && ended(keys, ends.three)
-}
-
-// The keys with which all the blocks that are there end.
-pub(crate) fn join(ends: ByAnswer<Option<Keys>>) -> Option<Keys>
-    ensures { result ≡ join_of (somes (listed ends)) }
-{
-    let keys = ends.zero.or(ends.one).or(ends.two).or(ends.three)?;
-    if all_ended(keys, ends) {
-        Some(keys)
-    } else {
-        None
+    match items {
+        [first, rest @ ..] => rest.iter().all(|item| item == first).then_some(*first),
+        [] => None,
     }
 }

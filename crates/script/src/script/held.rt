@@ -1,5 +1,5 @@
 // The script that is held: at first empty and passed, later what its checks put in its place.
-ghost use Rattle.std.specs.Prelude.{◌≡◌, [], length, Ok, Err};
+ghost use Rattle.std.specs.Prelude.{◌≡◌, [], length, OnOk, OnErr};
 ghost use Rattle.book.specs.Held.{bytes_of, kinds_held};
 ghost use Rattle.rules.specs.Check.{check_script};
 ghost use Rattle.rules.specs.Keys.{CheckDecides};
@@ -26,14 +26,16 @@ impl<'a> Script<'a> {
     // Puts other bytes, over the book, in the place of the held ones, or refuses and leaves the script as it was.
     pub fn check(&mut self, book: &Book<'a>, bytes: &'a [u8]) -> Result<(), Fault>
         ensures answer { result ≡ verdict (check_script (kinds_held book.now) bytes.now) }
-        ensures held { elim result [ Ok _ ↦ (book_of self.new ≡ bytes_of book.now) × (script_bytes self.new ≡ bytes.now) | Err _ ↦ self.new ≡ self.old ] }
+        ensures book { OnOk result (book_of self.new ≡ bytes_of book.now) }
+        ensures bytes { OnOk result (script_bytes self.new ≡ bytes.now) }
+        ensures refused { OnErr result (self.new ≡ self.old) }
         ensures decides { CheckDecides }
     {
-        let parts = read(book, bytes)?;
+        let parts = read(&*book, bytes)?;
         *self = Script {
             book: book.bytes(),
             bytes,
-            parts: parts.count(),
+            parts: parts.len() as u8,
         };
         Ok(())
     }
