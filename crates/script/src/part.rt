@@ -37,6 +37,7 @@ pub const MOST_PARTS: usize = 16;
 // By number.
 pub type Parts = ArrayVec<Part, MOST_PARTS>;
 
+// Written out: none is derived for a struct with a ghost field.
 impl Default for Part {
     fn default() -> Part {
         Part {
@@ -74,6 +75,7 @@ impl Part {
         self.handle(number).kind
     }
 
+    // Key sets for both ends: a function over the field would be longer than the two.
     pub(crate) fn stations_in(&self) -> Keys
         ensures { result ≡ map (λ h. h.enters) self.now.handles }
     {
