@@ -79,7 +79,7 @@ impl Automaton {
             && (0..ANSWERS).all(|answer| self.nears(retreat, answer))
     }
 
-    // Takes in a retreat that is in range and new; any other changes nothing.
+    // Takes in a retreat that is in range and new; any other changes nothing. Whether it did is a `bool`, as of a set's `insert`.
     pub(crate) fn add_retreat(&mut self, retreat: Retreat) -> bool
         ensures answer { result ≡ (retreat_in_range retreat && not (is_some (retreats_of self.old retreat.station))) }
         ensures edges { self.new.edges ≡ self.old.edges }

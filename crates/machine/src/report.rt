@@ -9,7 +9,7 @@ pub enum Outcome {
     Faulted { code: u8, place: u16 },
 }
 
-// Why a go stopped.
+// Why a go stopped. None of these is an error: a call that is refused answers an `Err` in its place.
 #[derive(Clone, Copy, PartialEq, Eq, Debug)]
 pub enum Reason {
     // Nothing is left of the script.

@@ -4,7 +4,7 @@ ghost use Rattle.protocol.specs.Tables.{edge_in_range};
 
 // The station at which nobody holds the device.
 pub const AWAY: u8 = 0;
-// The station of a device that heard a letter that was not allowed.
+// The station of a device that heard a letter that was not allowed: a number as the formats give it.
 pub const JAMMED: u8 = 16;
 // Stations are 0 to 15, letters 0 to 15, answers 0 to 3.
 pub const STATIONS: u8 = 16;

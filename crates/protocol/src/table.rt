@@ -5,7 +5,8 @@ ghost use Rattle.protocol.specs.Slots.{slot_of, table_in};
 
 use crate::edges::{ANSWERS, Edge, LETTERS, STATIONS};
 
-// By station, letter and answer, the station to which the edge leads.
+// By station, letter and answer, the station to which the edge leads. Flat, since the checker takes no array of arrays here,
+// and a struct for each row would be no plainer.
 #[derive(Clone, Copy)]
 pub struct EdgeTable {
     to: [Option<u8>; 1024],
@@ -44,7 +45,7 @@ impl EdgeTable {
         (0..ANSWERS).any(|answer| self.edge(station, letter, answer).is_some())
     }
 
-    // Takes in an edge that is in range and new; any other changes nothing.
+    // Takes in an edge that is in range and new; any other changes nothing. Whether it did is a `bool`, as of a set's `insert`.
     pub fn declare(&mut self, edge: Edge) -> bool
         ensures answer { result ≡ (edge_in_range edge && not (is_some (table_in self.old edge.from edge.letter edge.answer))) }
         ensures after { (s l a : ℕ) → table_in self.new s l a ≡ (if result && leads edge s l a then Some edge.to else table_in self.old s l a) }
