@@ -37,7 +37,7 @@ pub struct Automaton {
 // By the numbers of their kinds.
 pub type Automata = ArrayVec<Automaton, 8>;
 
-// Written out, to promise what it shows: a derive would promise its arrays.
+// By hand: its contract says that there are no edges and no retreats, where a derived one would list field values.
 impl Default for Automaton {
     ghost is_default = { IsEmpty };
 
@@ -79,7 +79,8 @@ impl Automaton {
             && (0..ANSWERS).all(|answer| self.nears(retreat, answer))
     }
 
-    // Takes in a retreat that is in range and new; any other changes nothing. Whether it did is a `bool`, as of a set's `insert`.
+    // Takes in a retreat that is in range and new; any other changes nothing. True where it was taken in, as of a set's
+    // `insert`.
     pub(crate) fn add_retreat(&mut self, retreat: Retreat) -> bool
         ensures answer { result ≡ (retreat_in_range retreat && not (is_some (retreats_of self.old retreat.station))) }
         ensures edges { self.new.edges ≡ self.old.edges }

@@ -123,7 +123,7 @@ impl Reader {
             return Err(BookCause::TooLong.at(NOWHERE));
         }
         let mut reader = Reader::new();
-        // what is left shrinks by as much as its first command takes, which no iterator knows
+        // each command says itself how long it is, so no iterator can step over them
         let mut rest = bytes;
         while !rest.is_empty() {
             let place = (bytes.len() - rest.len()) as u16;

@@ -15,7 +15,7 @@ pub enum Command {
     Book(Vec<u8>),
 }
 
-// It is answered, and the console goes on.
+// A line that is no command: it is answered, and the console goes on.
 #[derive(Clone, Copy, Debug, PartialEq, Eq)]
 pub struct NotUnderstood;
 

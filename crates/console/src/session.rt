@@ -35,6 +35,7 @@ fn answer_lines(heap: Global, lines: &[Line]) -> Result<String, AllocError>
 {
     let mut book = Book::new();
     let mut text = String::new(heap);
+    // zipped with numbers, a proof would not know that the lines are at an end where the loop is
     for (i, line) in lines.iter().enumerate() {
         if let Some(answer) = answer_line(&mut book, i as u64 + 1, line) {
             text.writeln(answer).map_err(|_| AllocError)?;

@@ -1,3 +1,3 @@
-// The answer to a letter that is not allowed, or that goes to a port that is missing. The formats give it this number, and the
-// station of a jammed device 16 (JAMMED), so `ask` and `station` answer numbers.
+// What `ask` answers when a letter is not allowed or a port is missing. It, and 16 for the station of a jammed device or a missing
+// port, are numbers by the rules for devices, and go into logs as such.
 pub const REFUSED: u8 = 255;

@@ -8,7 +8,7 @@ use protocol::ANSWERS;
 pub trait Device {
     ghost meaning: { Self → Meaning };
 
-    // Where an edge leads; none outside the ranges. The three go by themselves: a caller has each apart, one loop for each answer.
+    // Where an edge leads; none outside the ranges. No struct for the three: callers hold station and letter apart and try each answer.
     fn edge(&self, station: u8, letter: u8, answer: u8) -> Option<u8>
         ensures { result ≡ (meaning self.now).table station letter answer };
 

@@ -6,7 +6,7 @@ use crate::tally::Tally;
 pub struct Patch<D> {
     map: LetterMap,
     below: D,
-    // it heard a letter that was not allowed, which the device below never heard
+    // it heard a letter that was not allowed, which the device below never heard; no value goes with it
     stuck: bool,
     tally: Tally,
 }

@@ -8,5 +8,5 @@ pub use single::Single;
 // A rig has at most so many ports.
 pub const PORTS: u8 = 8;
 
-// What a missing port has heard; its station is JAMMED, and its answer is REFUSED.
+// What a missing port has heard; its station is JAMMED, and its answer is REFUSED. Numbers, by the rules for rigs.
 pub(crate) const UNHEARD: u32 = 0;

@@ -42,7 +42,7 @@ impl<D> Row<D> {
         self.devices
     }
 
-    // The device at a port; none where it is missing.
+    // The device at a port; none where it is missing. (As of `Single`, and for the same reason.)
     fn at(&self, port: u8) -> Option<&D>
         ensures { option_copied result ≡ slice_get (take 8 self.now.devices.items) port }
     {

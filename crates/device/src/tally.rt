@@ -11,7 +11,7 @@ pub struct Tally {
 }
 
 impl Tally {
-    // Of no letter yet, with what stands for the last letter and answer until there is one.
+    // No letter yet: these two are shown until the first one comes. The meaning of a device has a number for each at any time.
     pub fn new(letter: u8, answer: u8) -> Tally
         ensures heard { result.heard ≡ 0 }
         ensures letter { result.letter ≡ letter }

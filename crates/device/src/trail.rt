@@ -1,5 +1,5 @@
 // A layer over a device that keeps the last letters and answers.
-ghost use Rattle.std.specs.Prelude.{◌≡◌, [], ◌∷◌, ◌++◌, length};
+ghost use Rattle.std.specs.Prelude.{◌≡◌, ◌≤◌, [], ◌∷◌, ◌++◌, length};
 ghost use Rattle.std.specs.List.{slice_get};
 ghost use Rattle.device.specs.Meaning.{Hears};
 ghost use Rattle.device.specs.Rings.{last};
@@ -27,7 +27,8 @@ impl<D> Trail<D> {
 
     // How many pairs it shows, at most 32.
     pub fn pairs(&self) -> u8
-        ensures { result ≡ length (trail_of self.now) }
+        ensures value { result ≡ length (trail_of self.now) }
+        ensures few { result ≤ 32 }
     {
         self.ring.count()
     }
@@ -39,7 +40,7 @@ impl<D> Trail<D> {
         self.ring.pair(place)
     }
 
-    // The device below. (A trait of layers would have both of these bodies in each layer all the same.)
+    // The device below. (A trait for layers would save nothing: each would still write both bodies.)
     pub fn below(&self) -> &D
         ensures { result.now ≡ self.now.below }
     {

@@ -4,7 +4,7 @@
 ghost use Rattle.std.specs.Prelude.{◌≡◌, ◌<◌, [], ◌∷◌};
 ghost use Rattle.dimmer.specs.Lamp.{dimmer_ranged, dimmer_rule, dimmer_table, level_after, reply_of};
 
-use device::{Device, Tally};
+use device::{Device, REFUSED, Tally};
 use protocol::{AWAY, JAMMED};
 
 // Stations besides away and jammed. They, letters and answers are numbers, as the formats have them and `ask` takes them.
@@ -29,7 +29,7 @@ pub const STAYS_DARK: u8 = 1;
 // The level at which it is lit.
 pub const FULL: u8 = 3;
 
-// Its last letter and answer before it has heard one, and its answer to a letter that is not allowed.
+// Its last letter and answer before it has heard one.
 pub const NONE: u8 = 255;
 
 #[derive(Drop)]
@@ -125,8 +125,8 @@ impl Device for Dimmer {
             }
             None => {
                 self.station = JAMMED;
-                self.tally.note(letter, NONE);
-                NONE
+                self.tally.note(letter, REFUSED);
+                REFUSED
             }
         }
     }

@@ -21,9 +21,9 @@ fn third_brighter_lights(rt: HostRuntime) {
 #[test]
 fn wrong_letter_jams(rt: HostRuntime) {
     let mut lamp = Dimmer::new();
-    assert_eq!(rt; lamp.ask(DARKER), NONE);
+    assert_eq!(rt; lamp.ask(DARKER), REFUSED);
     assert_eq!(rt; (lamp.station(), lamp.heard()), (JAMMED, 1));
-    assert_eq!(rt; lamp.ask(TAKE), NONE);
+    assert_eq!(rt; lamp.ask(TAKE), REFUSED);
     assert_eq!(rt; (lamp.station(), lamp.heard()), (JAMMED, 2));
 }
 

@@ -1,4 +1,4 @@
-// The layers of causes: a cause of any makes a refusal at a place.
+// The layers of causes: a cause of any layer makes a refusal, at a place.
 ghost use Rattle.std.specs.Prelude.{◌≡◌};
 ghost use Rattle.faults.specs.declared.causes.Cause.{Cause};
 ghost use Rattle.faults.specs.declared.causes.Cause.TheVariants.{Book, Keys, Layout, Stage};
@@ -20,7 +20,7 @@ pub trait Layer: Into<Cause> {
         }
     }
 
-    // A cause of this layer converts to that cause alone.
+    // `into` gives exactly that cause.
     ghost sole: { (c : Self) (r : Cause) → Self.converts c r → r ≡ cause c };
 }
 

@@ -20,7 +20,7 @@ impl Fault {
     }
 }
 
-// A table for each layer, beside its causes: one for all would be no plainer.
+// One table for each enum; one for all of `Cause` would only be longer.
 impl BookCause {
     fn reason(self) -> &'static str
         ensures { result.now ≡ reason_of (Cause.Book self) }

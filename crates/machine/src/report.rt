@@ -1,4 +1,4 @@
-// What a step does, and what a go answers.
+// What a step does, and what a go answers. None of the cases is an error: a refused call answers an `Err` in their place.
 #[derive(Clone, Copy, PartialEq, Eq, Debug)]
 pub enum Outcome {
     // The command ran, with so many letters sent: one for a SEND or an ASK, else none.
@@ -9,7 +9,7 @@ pub enum Outcome {
     Faulted { code: u8, place: u16 },
 }
 
-// Why a go stopped. None of these is an error: a call that is refused answers an `Err` in its place.
+// Why a go stopped.
 #[derive(Clone, Copy, PartialEq, Eq, Debug)]
 pub enum Reason {
     // Nothing is left of the script.

@@ -1,5 +1,6 @@
 -- Letters that are allowed, and the answers to them.
-use Rattle.std.proofs.Common.{◌≡◌, ℕ, zero, suc, ◌<◌, Bool, true, is_some, Option, refl, ap, inl, inr, arith}
+use Rattle.std.proofs.Common.{◌≡◌, ℕ, zero, suc, ◌<◌, Bool, true, false, ◌||◌, is_some, Option, refl, ap, inl, inr, arith}
+use Rattle.std.specs.List.{list_any, range_with_len}
 use Rattle.protocol.specs.Lists.{all}
 use Rattle.protocol.specs.Tables.{Table, Ranged, Allowed, allowed, successors}
 use Rattle.protocol.proofs.Tests.{some_of, both, and_true, either, or_left, or_right}
@@ -41,3 +42,12 @@ module _ (f : Option ℕ → Bool) (e : Table) (s l : ℕ) where
 
   pub all_answers : ((a : ℕ) → f (e s l a) ≡ true) → all f (successors e s l) ≡ true
   all_answers h = and_true (h 0) (and_true (h 1) (and_true (h 2) (and_true (h 3) refl)))
+
+-- Some answer of four, as a chain looks for one
+
+or_false : (b : Bool) → (b || false) ≡ b
+or_false true = refl
+or_false false = refl
+
+pub one_of_four : (f : ℕ → Bool) → list_any f (range_with_len 0 4) ≡ (f 0 || (f 1 || (f 2 || f 3)))
+one_of_four f = ap (λ b. f 0 || (f 1 || (f 2 || b))) (or_false (f 3))

@@ -45,7 +45,8 @@ impl EdgeTable {
         (0..ANSWERS).any(|answer| self.edge(station, letter, answer).is_some())
     }
 
-    // Takes in an edge that is in range and new; any other changes nothing. Whether it did is a `bool`, as of a set's `insert`.
+    // Takes in an edge that is in range and new; any other changes nothing. True where it was taken in, as of a set's
+    // `insert`.
     pub fn declare(&mut self, edge: Edge) -> bool
         ensures answer { result ≡ (edge_in_range edge && not (is_some (table_in self.old edge.from edge.letter edge.answer))) }
         ensures after { (s l a : ℕ) → table_in self.new s l a ≡ (if result && leads edge s l a then Some edge.to else table_in self.old s l a) }

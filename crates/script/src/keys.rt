@@ -18,7 +18,7 @@ pub(crate) fn at(keys: &Keys, handle: u8) -> u8
 pub(crate) fn moved(mut keys: Keys, handle: u8, to: u8) -> Keys
     ensures { result ≡ slice_set keys handle to }
 {
-    // After `get_mut` of an array a proof knows no element of it.
+    // Not `get_mut`: the proof would no longer know the other elements.
     if (handle as usize) < keys.len() {
         keys[handle as usize] = to;
     }
@@ -42,7 +42,7 @@ pub(crate) fn hand_over(keys: Keys, bound: &[u8], handles: &[Handle]) -> Keys
 {
     let mut handed = keys;
     for (binding, handle) in bound.iter().zip(handles) {
-        // A call's result is not laid straight in an array that a loop keeps.
+        // The checker refuses `handed = moved(..)` in a loop, so a `let` stands between.
         let next = moved(handed, *binding, handle.leaves);
         handed = next;
     }

@@ -24,7 +24,7 @@ pub struct Part {
     pub place: u16,
     // how many of the handles are its own
     pub own: u8,
-    // A header has eight in any case, so no count of items is kept beside a buffer here.
+    // A header has eight in any case, and the spare ones are checked and shown too: `own` is no count of what is filled.
     pub handles: [Handle; HANDLES],
     // of the body
     pub len: u16,
@@ -75,7 +75,7 @@ impl Part {
         self.handle(number).kind
     }
 
-    // Key sets for both ends: a function over the field would be longer than the two.
+    // The stations at either end, as key sets. One function that takes the field would be longer than these two.
     pub(crate) fn stations_in(&self) -> Keys
         ensures { result ≡ map (λ h. h.enters) self.now.handles }
     {

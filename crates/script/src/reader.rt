@@ -38,7 +38,7 @@ impl<'a> Draft<'a> {
     fn read_parts(&self) -> Result<Parts, Fault>
         ensures { GivesParts self.now.bytes.now result (check_parts 17 (kinds_held self.now.book.now) [] 0 self.now.bytes.now) }
     {
-        // a part ends where its own header says, which no iterator knows
+        // each part says itself how long it is, so no iterator can step over them
         let mut parts = ArrayVec::new();
         let mut place: u16 = 0;
         while (place as usize) < self.bytes.len() {

@@ -64,7 +64,7 @@ impl<'a> Scope<'a> {
         run.fits().then_some(run)
     }
 
-    // The operands of a command are in their ranges, but for a RUN, of which the part is looked up first.
+    // Whether the operands are in range. A RUN passes here; `run` tests its part and bindings.
     pub(crate) fn in_range(&self, command: &Command) -> bool
         ensures { result ≡ in_range_so (scope_of self.now) (said command.now) }
     {

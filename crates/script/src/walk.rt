@@ -138,7 +138,7 @@ impl Level<'_> {
     fn check_block(&self, block: Block, start: Keys) -> Result<Keys, Fault>
         ensures { result ≡ block_keys (scope_at self.now) self.now.depth (piece block.entry) start }
     {
-        // what is left shrinks by as much as its first command takes, which no iterator knows
+        // each command says itself how long it is, so no iterator can step over them
         let mut rest = block;
         let mut keys = start;
         while !rest.bytes.is_empty() {

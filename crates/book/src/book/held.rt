@@ -1,5 +1,5 @@
 // The book that is held: at first empty and passed, later what its checks put in its place.
-ghost use Rattle.std.specs.Prelude.{◌≡◌, [], length, is_ok, is_some, if◌then◌else◌, Ok, MatchOption, OnErr, nat_lt};
+ghost use Rattle.std.specs.Prelude.{◌≡◌, ◌≤◌, [], length, is_ok, is_some, if◌then◌else◌, Ok, MatchOption, OnErr, nat_lt};
 ghost use Rattle.std.specs.Option.{option_map};
 ghost use Rattle.protocol.specs.Tables.{table_of};
 ghost use Rattle.book.specs.Automata.{Shows};
@@ -47,9 +47,10 @@ impl<'a> Book<'a> {
         self.bytes
     }
 
-    // How many kinds the book declares.
+    // How many kinds the book declares, at most 8.
     pub fn kinds(&self) -> u8
-        ensures { result ≡ length (kinds_held self.now) }
+        ensures value { result ≡ length (kinds_held self.now) }
+        ensures few { result ≤ 8 }
     {
         self.kinds.len() as u8
     }

@@ -24,7 +24,7 @@ impl<D: Device> Patch<D> {
         }
     }
 
-    // The device below. (See Trail.)
+    // The device below. (As of `Trail`, and for the same reason.)
     pub fn below(&self) -> &D
         ensures { result.now ≡ self.now.below }
     {

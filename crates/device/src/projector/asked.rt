@@ -13,7 +13,7 @@ use protocol::{AWAY, JAMMED};
 // The letter that asks for the lamp's state, the one letter with several answers.
 const LAMP: u8 = 3;
 
-// Row by row as the house book declares it, so by its numbers.
+// The edges of the house book, one a line, with its numbers.
 fn successor(station: u8, letter: u8, answer: u8) -> Option<u8>
     ensures { result ≡ projector_table station letter answer }
 {
@@ -73,7 +73,7 @@ impl<'a> Projector<'a> {
         ensures left { replies_of self.new ≡ replies_after self.old letter }
         ensures same { projector_meaning self.new ≡ projector_meaning self.old }
     {
-        // each letter that is allowed has the answer 0, among others
+        // each letter that is allowed has the answer 0, among others (the checker sees a cycle in a call of `allows` here)
         if successor(self.station, letter, 0).is_none() {
             REFUSED
         } else if letter == LAMP {

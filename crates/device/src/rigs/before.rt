@@ -16,7 +16,7 @@ pub struct Before<D, R> {
     rest: R,
 }
 
-// Whose a port is: the first device's, or the rest's, at a port of its own.
+// To whom a port belongs: the first device, or the rest, which counts its own ports from 0. Names read better here than an option.
 enum Part {
     First,
     Rest(u8),

@@ -29,8 +29,8 @@ impl<D> Single<D> {
         &self.device
     }
 
-    // The device at a port; none where it is missing. (What a row looks up by its own `at` reads the same, one line each: a function
-    // for both would be longer.)
+    // The device at a port; none where it is missing. `Row` has the same one-line bodies over its own `at`; sharing them would take
+    // more lines than it saves.
     fn at(&self, port: u8) -> Option<&D>
         ensures { option_copied result ≡ slice_get (self.now.device ∷ []) port }
     {

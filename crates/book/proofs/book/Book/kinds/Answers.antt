@@ -3,5 +3,5 @@ use Rattle.std.proofs.lemmas.Slice.Zip.{AllZip-long}
 use Rattle.book.specs.Automata.{Shows}
 use Rattle.book.proofs.book.Book.kinds.Goals as goal
 
-pub returns : goal.returns
-returns c = c.len.ensures.value ∙ sym (AllZip-long Shows _ _ c.args.self.now.shown)
+pub returns-clause-value : goal.returns-clause-value
+returns-clause-value c = c.len.ensures.value ∙ sym (AllZip-long Shows _ _ c.args.self.now.shown)

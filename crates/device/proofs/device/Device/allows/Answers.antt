@@ -1,17 +1,10 @@
-use Rattle.std.proofs.Common.{◌≡◌, ℕ, Bool, true, false, ◌||◌, is_some, refl, ap, ◌∙◌, rules, tests}
-use Rattle.std.specs.List.{list_any, range_with_len}
+use Rattle.std.proofs.Common.{ℕ, is_some, refl, ap, ◌∙◌, rules, tests}
 use Rattle.std.proofs.lemmas.Iterator.{YieldsList-from_range}
 use Rattle.std.proofs.lemmas.Iterator.Search.{any_from_yields_List}
 use Rattle.protocol.specs.Tables.{allowed}
+use Rattle.protocol.proofs.Answers.{one_of_four}
 use Rattle.device.specs.Meaning.{Meaning}
 use Rattle.device.proofs.device.Device.allows.Goals as goal
-
-or_false : (b : Bool) → (b || false) ≡ b
-or_false true = refl
-or_false false = refl
-
-one_of_four : (f : ℕ → Bool) → list_any f (range_with_len 0 4) ≡ (f 0 || (f 1 || (f 2 || f 3)))
-one_of_four f = ap (λ b. f 0 || (f 1 || (f 2 || b))) (or_false (f 3))
 
 pub returns : goal.returns
 returns g c =

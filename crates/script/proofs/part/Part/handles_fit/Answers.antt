@@ -14,4 +14,4 @@ returns-then-own-gt0 c =
     let one = λ (n : ℕ) (h : ℕ × Handle). cond (ltb h.0 p.own) (ranged n h.1) (empty_handle h.1) in
     let all : c.all.result ≡ list_all (one c.kinds-kinds.result) (enumerate_from 0 p.handles) =
     all_from_yields_List (one c.kinds-kinds.result) _ _ c.all.result c.all.ensures.ran (YieldsList-from_enumerate (YieldsList-from_slice p.handles (cc)) (cc)) (λ x b q k. search (rules, tests)) in
-    all ∙ (λ i. sym (is_less {m = 0} {n = p.own} c.if-own-gt0.true) i && list_all (one (c.kinds-kinds.ensures i)) (enumerate_from 0 p.handles))
+    all ∙ (λ i. sym (is_less {m = 0} {n = p.own} c.if-own-gt0.true) i && list_all (one (c.kinds-kinds.ensures.value i)) (enumerate_from 0 p.handles))
