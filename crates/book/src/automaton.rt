@@ -56,7 +56,7 @@ impl Automaton {
         *self.retreats.get(usize::from(station))?
     }
 
-    // The rank of a station; 0 at away, and where there is no retreat.
+    // The rank of a station; 0 at away, and where there is no retreat, as the definition has it.
     fn rank(&self, station: u8) -> u8
         ensures { result ≡ rank_of (retreats_of self.now station) }
     {

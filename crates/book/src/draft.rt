@@ -58,6 +58,7 @@ impl Draft {
         Ok(())
     }
 
+    // The tests and faults of an edge again, over another type and place: a trait for both would be longer.
     pub(crate) fn add_retreat(&mut self, place: u16, retreat: Retreat) -> Result<(), Fault>
         ensures { (x : ReadingDraft) → Drafts self.old x → Gives (λ _ y. Drafts self.new y) result (add_retreat x place retreat) }
     {

@@ -96,6 +96,7 @@ fn read_ask<'a>(
     ))
 }
 
+// Measured and cut as an ASK; what is made of it differs.
 fn read_repeat<'a>(
     place: u16,
     register: u8,
@@ -111,7 +112,7 @@ fn read_repeat<'a>(
     Ok((Command::Repeat { register, block }, rest))
 }
 
-// The first command of a block that is not empty, and the rest.
+// The first command of a block that is not empty, and the rest. Operands are patterns, by a rule of the project.
 pub(crate) fn read_command<'a>(block: Block<'a>) -> Result<(Command<'a>, Block<'a>), Fault>
     requires { 0 < length (piece block).bytes }
     ensures { Gives block.entry.place result (first (piece block.entry)) }

@@ -7,7 +7,7 @@ use crate::part::{HANDLES, Handle};
 
 pub type Keys = [u8; HANDLES];
 
-// The station of a handle; 0 beyond the last.
+// The station of a handle; 0 beyond the last, as the look-up of the definitions has it.
 pub(crate) fn at(keys: &Keys, handle: u8) -> u8
     ensures { result ≡ slice_index keys.now handle }
 {
