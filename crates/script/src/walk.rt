@@ -19,7 +19,8 @@ use arrayvec::ArrayVec;
 use faults::{Fault, KeyCause, Layer, LayoutCause};
 
 impl Scope<'_> {
-    // Where the answers to a letter lead, if it is allowed.
+    // Where the answers to a letter lead, if it is allowed. (Place, handle, letter and keys go by themselves: a struct of them would be
+    // made of a command for one call, and taken apart in it.)
     fn allowed(&self, place: u16, handle: u8, letter: u8, keys: Keys) -> Result<Successors, Fault>
         ensures { result ≡ allowed_at (scope_of self.now) place handle letter keys }
     {
