@@ -74,7 +74,7 @@ module _ (k : Kind) (l : LawfulKind k) where
       comes n t f.0 (omega (arith, le', f.1)))
 
 -- beyond the kinds of a book there is one without edges and retreats
-none_lawful : LawfulKind no_kind
+pub none_lawful : LawfulKind no_kind
 none_lawful = record { edges_ranged = tt; retreats_ranged = tt; edges_new = tt; retreats_new = tt; homed = tt; allowed = tt; falls = tt }
 
 pub leads_home : RetreatsLeadHome

@@ -5,12 +5,9 @@ use Rattle.protocol.proofs.Lists.{each_at}
 use Rattle.book.specs.Kinds.{Kind, no_kind}
 use Rattle.book.specs.Reading.{read_book}
 use Rattle.book.specs.Lawful.{LawfulKind}
+use Rattle.book.proofs.Home.{none_lawful}
 use Rattle.book.proofs.Passed.{passed_declares}
 use Rattle.protocol.proofs.Ranges.{table_ranged}
-
--- beyond the kinds there is one without edges
-none_lawful : LawfulKind no_kind
-none_lawful = record { edges_ranged = tt; retreats_ranged = tt; edges_new = tt; retreats_new = tt; homed = tt; allowed = tt; falls = tt }
 
 pub passed_ranged : (bb : List ℕ) (book : List Kind) → read_book bb ≡ Ok book → (k : ℕ) → Ranged (table_of (get_or book k no_kind).edges)
 passed_ranged bb book e k = table_ranged (get_or book k no_kind).edges (each_at LawfulKind book no_kind none_lawful (passed_declares bb book e).lawful k).edges_ranged
