@@ -1,11 +1,11 @@
 -- The commands of the code, and how they are read.
-use Rattle.std.specs.Prelude.{◌≡◌, ℕ, Bool, true, false, List, length, Ok, Err, Result, nat_le}
+use Rattle.std.specs.Prelude.{◌≡◌, ℕ, Bool, true, false, List, length, Some, None, Ok, Err, Option, Result, nat_le}
 use Rattle.faults.specs.declared.fault.Fault.{Fault}
 use Rattle.faults.specs.declared.causes.LayoutCause.TheVariants.{BadCommand}
 use Rattle.faults.specs.Numbers.{layout_fault}
 use Rattle.rules.specs.Lists.{total}
 use Rattle.rules.specs.Script as rules
-use Rattle.rules.specs.Script.{cut, in_range, send, ask, repeat, run, store, dec, cue, fail, broken, command}
+use Rattle.rules.specs.Script.{cut, first, in_range, send, ask, repeat, run, store, dec, cue, fail, nothing, broken, command}
 use Rattle.script.specs.declared.block.Block.{Block}
 use Rattle.script.specs.declared.command.Command.{Command}
 use Rattle.script.specs.declared.command.Command.TheVariants.{Send, Ask, Repeat, Run, Set, Dec, Cue, Fail}
@@ -48,3 +48,8 @@ ask_at h l ns tail =
 abbrev pub repeat_at : ℕ → ℕ → rules.Block → rules.Read
 repeat_at r n tail =
     elim (nat_le n (length tail.bytes)) [ false ↦ broken | true ↦ command (repeat r (front n tail)) (past n tail) ]
+
+-- what a block begins with: none where it is empty
+abbrev pub Begins : Block → Option (Result (Command × Block) Fault) → Type 0
+Begins b None = first (piece b) ≡ nothing
+Begins b (Some r) = Gives b.place r (first (piece b))

@@ -185,3 +185,18 @@ pub(crate) fn read_command<'a>(block: Block<'a>) -> Result<(Command<'a>, Block<'
         _ => Err(LayoutCause::BadCommand.at(place)),
     }
 }
+
+impl<'a> Block<'a> {
+    ghost use Rattle.script.specs.Commands.{Begins};
+
+    // The first command and the rest; none where the block is empty.
+    pub fn first(self) -> Option<Result<(Command<'a>, Block<'a>), Fault>>
+        ensures { Begins self.entry result }
+    {
+        if self.bytes.is_empty() {
+            None
+        } else {
+            Some(read_command(self))
+        }
+    }
+}

@@ -19,4 +19,7 @@ mod successors;
 mod tests;
 mod walk;
 
+pub use block::Block;
+pub use blocks::Blocks;
+pub use command::Command;
 pub use script::Script;

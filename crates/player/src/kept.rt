@@ -1,0 +1,66 @@
+// Whether a rig is as a player keeps it, or as a script needs it.
+ghost use Rattle.std.specs.Prelude.{◌≡◌};
+ghost use Rattle.device.specs.Ports.{edge_at};
+ghost use Rattle.machine.specs.Calls.{rig_kept, same_table};
+ghost use Rattle.machine.specs.Player.{port_table};
+ghost use Rattle.player.specs.Loaded.{held};
+ghost use Rattle.player.specs.Kept.{may_begin};
+ghost use Rattle.player.specs.Seen.{seen};
+
+use crate::loaded::Loaded;
+use crate::stage::Stage;
+use device::Rig;
+use faults::{Fault, Layer, NOWHERE, StageCause};
+use protocol::{ANSWERS, AWAY, LETTERS, STATIONS};
+
+impl<'a> Loaded<'a> {
+    // The device of a port has the table of the port's kind.
+    pub(crate) fn table_fits<R: Rig>(&self, rig: &R, port: u8) -> bool
+        ensures { result ≡ same_table (edge_at (R.Rig.ports rig.now) port) (port_table (held self.now) port) }
+    {
+        (0..STATIONS).all(|station| {
+            (0..LETTERS).all(|letter| {
+                (0..ANSWERS).all(|answer| {
+                    rig.edge(port, station, letter, answer)
+                        == self.edge(port, station, letter, answer)
+                })
+            })
+        })
+    }
+
+    // The device of each port has the table of the port's kind and is away, or the lowest one at which a table differs,
+    // and else the lowest one that is not away, is refused.
+    pub(crate) fn fits<R: Rig>(&self, rig: &R) -> Result<(), Fault>
+        ensures { result ≡ may_begin (held self.now) (R.Rig.ports rig.now) }
+    {
+        for port in 0..rig.count() {
+            if !self.table_fits(rig, port) {
+                return Err(StageCause::OtherTable.at(port as u16));
+            }
+        }
+        for port in 0..rig.count() {
+            if rig.station(port) != AWAY {
+                return Err(StageCause::NotAway.at(port as u16));
+            }
+        }
+        Ok(())
+    }
+}
+
+impl<'a> Stage<'a> {
+    // The rig is as it was left: the count of ports, their tables and their stations.
+    pub(crate) fn rig_kept<R: Rig>(&self, loaded: &Loaded<'a>, rig: &R) -> Result<(), Fault>
+        ensures { result ≡ rig_kept (seen (held loaded.now) self.now) (R.Rig.ports rig.now) }
+    {
+        let ports = rig.count();
+        if self.stations.len() != ports as usize {
+            return Err(StageCause::RigChanged.at(NOWHERE));
+        }
+        for port in 0..ports {
+            if !loaded.table_fits(rig, port) || rig.station(port) != self.station(port) {
+                return Err(StageCause::RigChanged.at(port as u16));
+            }
+        }
+        Ok(())
+    }
+}

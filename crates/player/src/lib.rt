@@ -1,0 +1,12 @@
+// The player of passed scripts on any rig of devices.
+#![tactic(auto)]
+
+mod commands;
+mod exits;
+mod going;
+mod kept;
+mod loaded;
+mod open_blocks;
+mod player;
+mod stage;
+mod telling;

@@ -1,0 +1,119 @@
+// The blocks of a script that are open.
+ghost use Rattle.std.specs.Prelude.{◌≡◌, ◌<◌, [], ◌∷◌, length, option_map, slice_get, ◌==◌};
+ghost use Rattle.machine.specs.Steps.{unwound};
+ghost use Rattle.script.specs.Pieces.{piece};
+ghost use Rattle.player.specs.Frames.{frame_of, frames_of, passed};
+
+use arrayvec::ArrayVec;
+use script::Block;
+
+// The most blocks that are open at once.
+pub(crate) const MOST_OPEN: usize = 128;
+
+// What is left of a block, and the port of each of eight handles there, 255 beyond its own.
+#[derive(Clone, Copy)]
+pub struct Frame<'a> {
+    pub block: Block<'a>,
+    pub ports: [u8; 8],
+}
+
+// A place of the table that holds no block.
+impl Default for Frame<'_> {
+    fn default() -> Self {
+        Frame {
+            block: Block {
+                bytes: &[],
+                place: 0,
+            },
+            ports: [255; 8],
+        }
+    }
+}
+
+// The last one is the topmost. A plain table: what is so of the blocks is said where the player is.
+#[derive(Drop)]
+pub struct OpenBlocks<'a> {
+    frames: ArrayVec<Frame<'a>, MOST_OPEN>,
+}
+
+impl<'a> OpenBlocks<'a> {
+    pub(crate) fn new() -> OpenBlocks<'a>
+        ensures { frames_of result ≡ [] }
+    {
+        OpenBlocks {
+            frames: ArrayVec::new(),
+        }
+    }
+
+    pub(crate) fn is_empty(&self) -> bool
+        ensures { result ≡ (length (frames_of self.now) == 0) }
+    {
+        self.frames.is_empty()
+    }
+
+    pub(crate) fn top(&self) -> Option<Frame<'a>>
+        ensures { option_map frame_of result ≡ slice_get (frames_of self.now) 0 }
+    {
+        self.frames.as_slice().last().copied()
+    }
+
+    // The topmost goes on behind a command.
+    pub(crate) fn pass(&mut self, rest: Block<'a>)
+        ensures { frames_of self.new ≡ passed (piece rest.entry) (frames_of self.old) }
+    {
+        if let Some(top) = self.top_mut() {
+            top.block = rest;
+        }
+    }
+
+    fn top_mut(&mut self) -> Option<&mut Frame<'a>> {
+        let last = self.frames.len().checked_sub(1)?;
+        self.frames.get_mut(last)
+    }
+
+    pub(crate) fn push(&mut self, frame: Frame<'a>)
+        requires { length (frames_of self.old) < 128 }
+        ensures { frames_of self.new ≡ frame_of frame.entry ∷ frames_of self.old }
+    {
+        self.frames.push(frame);
+    }
+
+    pub(crate) fn clear(&mut self)
+        ensures { frames_of self.new ≡ [] }
+    {
+        self.frames.clear();
+    }
+
+    // Leaves the blocks that are at their end.
+    pub(crate) fn unwind(&mut self)
+        ensures { frames_of self.new ≡ unwound (frames_of self.old) }
+    {
+        while self.top().is_some_and(|frame| frame.block.bytes.is_empty()) {
+            self.frames.pop();
+        }
+    }
+}
+
+impl Frame<'_> {
+    ghost use Rattle.std.specs.Prelude.{get_or, slice_index};
+
+    // The port of a handle; 0 past the eighth, which no passed script has.
+    pub(crate) fn port(&self, handle: u8) -> u8
+        ensures { result ≡ slice_index self.now.ports handle }
+    {
+        self.ports
+            .get(handle as usize)
+            .copied()
+            .unwrap_or_default()
+    }
+
+    // The port to which a part's handle is bound that a RUN binds to this one; 255 past the eighth.
+    pub(crate) fn bound(&self, handle: u8) -> u8
+        ensures { result ≡ get_or self.now.ports handle 255 }
+    {
+        self.ports
+            .get(handle as usize)
+            .copied()
+            .unwrap_or(255)
+    }
+}

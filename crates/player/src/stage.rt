@@ -1,0 +1,109 @@
+// What a player keeps besides its script.
+use crate::loaded::Loaded;
+use crate::open_blocks::{Frame, OpenBlocks};
+use arrayvec::ArrayVec;
+use protocol::AWAY;
+use std::array;
+
+// Eight, 0 to 7.
+pub(crate) const REGISTERS: usize = 8;
+
+// Plain, so that each part of it may change by itself.
+#[derive(Drop)]
+pub struct Stage<'a> {
+    pub over: bool,
+    pub registers: [u8; REGISTERS],
+    // by port
+    pub stations: ArrayVec<u8, 8>,
+    pub open: OpenBlocks<'a>,
+}
+
+impl<'a> Stage<'a> {
+    ghost use Rattle.std.specs.Prelude.{◌≡◌, ◌≤◌, slice_index};
+    ghost use Rattle.rules.specs.Script as rules;
+    ghost use Rattle.rules.specs.Script.{empty_script};
+    ghost use Rattle.machine.specs.Player.{begun, finished, main, new_player, with_register, with_station};
+    ghost use Rattle.player.specs.Loaded.{held};
+    ghost use Rattle.player.specs.Room.{Room};
+    ghost use Rattle.player.specs.Seen.{seen};
+
+    // Over, without a port.
+    pub(crate) fn new() -> Stage<'a>
+        ensures { seen empty_script result ≡ new_player }
+    {
+        Stage {
+            over: true,
+            registers: [0; REGISTERS],
+            stations: ArrayVec::new(),
+            open: OpenBlocks::new(),
+        }
+    }
+
+    // At the start of main, whose handles are so many ports.
+    pub(crate) fn begun(loaded: &Loaded<'a>, ports: u8) -> Stage<'a>
+        requires few { ports ≤ 8 }
+        requires own { ports ≡ (main (held loaded.now)).handles }
+        ensures begun { seen (held loaded.now) result ≡ begun (held loaded.now) }
+        ensures room { Room (held loaded.now) result }
+    {
+        let mut stations = ArrayVec::new();
+        for _ in 0..ports {
+            stations.push(AWAY);
+        }
+        let mut open = OpenBlocks::new();
+        open.push(Frame {
+            block: loaded.main(),
+            ports: array::from_fn(|i| if i < ports as usize { i as u8 } else { 255 }),
+        });
+        Stage {
+            over: false,
+            registers: [0; REGISTERS],
+            stations,
+            open,
+        }
+    }
+
+    // The station that is kept for a port; 0 where there is no such port.
+    pub(crate) fn station(&self, port: u8) -> u8
+        ensures { result ≡ slice_index self.now.stations.items port }
+    {
+        self.stations
+            .as_slice()
+            .get(port as usize)
+            .copied()
+            .unwrap_or_default()
+    }
+
+    pub(crate) fn set_station(&mut self, port: u8, station: u8)
+        ensures { (s : rules.Script) → seen s self.new ≡ with_station (seen s self.old) port station }
+    {
+        if let Some(kept) = self.stations.get_mut(port as usize) {
+            *kept = station;
+        }
+    }
+
+    pub(crate) fn register(&self, register: u8) -> u8
+        ensures { result ≡ slice_index self.now.registers register }
+    {
+        self.registers
+            .get(register as usize)
+            .copied()
+            .unwrap_or_default()
+    }
+
+    pub(crate) fn set_register(&mut self, register: u8, value: u8)
+        ensures { (s : rules.Script) → seen s self.new ≡ with_register (seen s self.old) register value }
+    {
+        if let Some(held) = self.registers.get_mut(register as usize) {
+            *held = value;
+        }
+    }
+
+    // Nothing is open any more.
+    pub(crate) fn finish(&mut self)
+        ensures { (s : rules.Script) → seen s self.new ≡ finished (seen s self.old) }
+    {
+        self.over = true;
+        self.open.clear();
+    }
+}
