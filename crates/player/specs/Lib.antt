@@ -5,3 +5,4 @@ pub mod Room
 pub mod Seen
 pub mod Told
 pub mod View
+pub mod Performing

@@ -7,6 +7,7 @@ mod going;
 mod kept;
 mod loaded;
 mod open_blocks;
+mod perform;
 mod player;
 mod stage;
 mod telling;
