@@ -1,8 +1,8 @@
 // The blocks of a script that are open.
-ghost use Rattle.std.specs.Prelude.{◌≡◌, ◌<◌, [], ◌∷◌, length, option_map, slice_get, ◌==◌};
+ghost use Rattle.std.specs.Prelude.{◌≡◌, ◌<◌, [], ◌∷◌, drop, length, option_map, slice_get, ◌==◌};
 ghost use Rattle.machine.specs.Steps.{unwound};
 ghost use Rattle.script.specs.Pieces.{piece};
-ghost use Rattle.player.specs.Frames.{frame_of, frames_of, passed};
+ghost use Rattle.player.specs.Frames.{at_end, frame_of, frames_of, passed};
 
 use arrayvec::ArrayVec;
 use script::Block;
@@ -84,12 +84,24 @@ impl<'a> OpenBlocks<'a> {
         self.frames.clear();
     }
 
+    fn at_end(&self) -> bool
+        ensures { result ≡ at_end (frames_of self.now) }
+    {
+        self.top().is_some_and(|frame| frame.block.bytes.is_empty())
+    }
+
+    fn pop(&mut self)
+        ensures { frames_of self.new ≡ drop 1 (frames_of self.old) }
+    {
+        self.frames.pop();
+    }
+
     // Leaves the blocks that are at their end.
     pub(crate) fn unwind(&mut self)
         ensures { frames_of self.new ≡ unwound (frames_of self.old) }
     {
-        while self.top().is_some_and(|frame| frame.block.bytes.is_empty()) {
-            self.frames.pop();
+        while self.at_end() {
+            self.pop();
         }
     }
 }
@@ -101,19 +113,13 @@ impl Frame<'_> {
     pub(crate) fn port(&self, handle: u8) -> u8
         ensures { result ≡ slice_index self.now.ports handle }
     {
-        self.ports
-            .get(handle as usize)
-            .copied()
-            .unwrap_or_default()
+        self.ports.get(handle as usize).copied().unwrap_or_default()
     }
 
     // The port to which a part's handle is bound that a RUN binds to this one; 255 past the eighth.
     pub(crate) fn bound(&self, handle: u8) -> u8
         ensures { result ≡ get_or self.now.ports handle 255 }
     {
-        self.ports
-            .get(handle as usize)
-            .copied()
-            .unwrap_or(255)
+        self.ports.get(handle as usize).copied().unwrap_or(255)
     }
 }

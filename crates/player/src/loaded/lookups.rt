@@ -41,29 +41,32 @@ impl<'a> Loaded<'a> {
     pub(crate) fn main(&self) -> Block<'a>
         ensures { piece result ≡ (main (held self.now)).body }
     {
-        Block { bytes: &[], place: 0 }
+        Block {
+            bytes: &[],
+            place: 0,
+        }
     }
 
     pub(crate) fn body(&self, part: u8) -> Block<'a>
         ensures { piece result ≡ (get_or (held self.now).parts part no_part).body }
     {
-        Block { bytes: &[], place: 0 }
+        Block {
+            bytes: &[],
+            place: 0,
+        }
     }
 
     // Where the answer to a letter leads the device of a port.
     pub(crate) fn edge(&self, port: u8, station: u8, letter: u8, answer: u8) -> Option<u8>
         ensures { result ≡ port_table (held self.now) port station letter answer }
     {
-        self.book
-            .edge(port, station, letter, answer)
+        self.book.edge(port, station, letter, answer)
     }
 
     // The letter by which a port at the station is led towards away; 0 where there is none.
     pub(crate) fn retreat_letter(&self, port: u8, station: u8) -> u8
         ensures { result ≡ homeward (port_kind (held self.now) port) station }
     {
-        self.book
-            .retreat_letter(port, station)
-            .unwrap_or_default()
+        self.book.retreat_letter(port, station).unwrap_or_default()
     }
 }
