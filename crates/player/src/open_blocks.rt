@@ -61,14 +61,9 @@ impl<'a> OpenBlocks<'a> {
     pub(crate) fn pass(&mut self, rest: Block<'a>)
         ensures { frames_of self.new ≡ passed (piece rest.entry) (frames_of self.old) }
     {
-        if let Some(top) = self.top_mut() {
-            top.block = rest;
+        if let Some(top) = self.frames.pop() {
+            self.frames.push(Frame { block: rest, ..top });
         }
-    }
-
-    fn top_mut(&mut self) -> Option<&mut Frame<'a>> {
-        let last = self.frames.len().checked_sub(1)?;
-        self.frames.get_mut(last)
     }
 
     pub(crate) fn push(&mut self, frame: Frame<'a>)

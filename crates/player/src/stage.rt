@@ -94,8 +94,9 @@ impl<'a> Stage<'a> {
     pub(crate) fn set_register(&mut self, register: u8, value: u8)
         ensures { (s : rules.Script) → seen s self.new ≡ with_register (seen s self.old) register value }
     {
-        if let Some(held) = self.registers.get_mut(register as usize) {
-            *held = value;
+        let i = register as usize;
+        if i < REGISTERS {
+            self.registers[i] = value;
         }
     }
 
