@@ -61,8 +61,8 @@ impl<'a> OpenBlocks<'a> {
     pub(crate) fn pass(&mut self, rest: Block<'a>)
         ensures { frames_of self.new ≡ passed (piece rest.entry) (frames_of self.old) }
     {
-        if let Some(top) = self.frames.pop() {
-            self.frames.push(Frame { block: rest, ..top });
+        if let [.., top] = self.frames.as_mut_slice() {
+            top.block = rest;
         }
     }
 
