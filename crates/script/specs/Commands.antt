@@ -1,5 +1,5 @@
 -- The commands of the code, and how they are read.
-use Rattle.std.specs.Prelude.{◌≡◌, ℕ, Bool, true, false, List, length, Ok, Err, Result, nat_le}
+use Rattle.std.specs.Prelude.{◌≡◌, ℕ, Bool, true, false, List, length, Some, None, Ok, Err, Option, Result, nat_le}
 use Rattle.faults.specs.declared.fault.Fault.{Fault}
 use Rattle.faults.specs.declared.causes.LayoutCause.TheVariants.{BadCommand}
 use Rattle.faults.specs.Numbers.{layout_fault}
@@ -36,6 +36,11 @@ in_range_so x (fail c) = in_range x (fail c)
 abbrev pub Gives : ℕ → Result (Command × Block) Fault → rules.Read → Type 0
 Gives place (Ok x) q = q ≡ command (said x.0) (piece x.1)
 Gives place (Err e) q = (q ≡ broken) × (e ≡ layout_fault BadCommand place)
+
+-- what a block begins with: nothing exactly where it is empty
+abbrev pub Begins : Block → Option (Result (Command × Block) Fault) → Type 0
+Begins b None = rules.first (piece b) ≡ rules.nothing
+Begins b (Some r) = Gives b.place r (rules.first (piece b))
 
 -- an ASK and a REPEAT whose blocks stand in the tail
 abbrev pub ask_at : ℕ → ℕ → List ℕ → rules.Block → rules.Read

@@ -2,7 +2,7 @@
 ghost use Rattle.std.specs.Prelude.{◌≡◌, ◌<◌, length};
 ghost use Rattle.rules.specs.Lists.{joined};
 ghost use Rattle.rules.specs.Script.{first};
-ghost use Rattle.script.specs.Commands.{Gives, ask_at, repeat_at};
+ghost use Rattle.script.specs.Commands.{Begins, Gives, ask_at, repeat_at};
 ghost use Rattle.script.specs.Pieces.{piece};
 
 use crate::answers::ByAnswer;
@@ -110,6 +110,19 @@ fn read_repeat<'a>(
     }
     let (block, rest) = tail.cut(len);
     Ok((Command::Repeat { register, block }, rest))
+}
+
+impl<'a> Block<'a> {
+    // Its first command and the rest, unless it is empty.
+    pub fn first(self) -> Option<Result<(Command<'a>, Block<'a>), Fault>>
+        ensures { Begins self.entry result }
+    {
+        if self.bytes.is_empty() {
+            None
+        } else {
+            Some(read_command(self))
+        }
+    }
 }
 
 // The first command of a block that is not empty, and the rest. Operands are patterns, by a rule of the project.

@@ -19,4 +19,8 @@ mod successors;
 mod tests;
 mod walk;
 
+pub use answers::{ANSWERS, ByAnswer};
+pub use block::Block;
+pub use blocks::Blocks;
+pub use command::Command;
 pub use script::Script;

@@ -1,6 +1,8 @@
 // Parts of a script.
 ghost use Rattle.std.specs.Prelude.{◌≤◌};
 
+use crate::block::Block;
+use crate::header::HEADER;
 use crate::keys::Keys;
 use arrayvec::ArrayVec;
 use protocol::AWAY;
@@ -50,8 +52,9 @@ impl Default for Part {
 }
 
 impl Part {
-    ghost use Rattle.std.specs.Prelude.{◌≡◌, map, slice_index, slice_index_or, take};
-    ghost use Rattle.script.specs.Parts.{away, no_handle};
+    ghost use Rattle.std.specs.Prelude.{◌≡◌, length, map, slice_index, slice_index_or, take};
+    ghost use Rattle.script.specs.Parts.{Lies, away, no_handle, shown};
+    ghost use Rattle.script.specs.Pieces.{piece};
 
     pub(crate) fn own_handles(&self) -> &[Handle]
         ensures { result.now ≡ take self.now.own self.now.handles }
@@ -86,6 +89,20 @@ impl Part {
         ensures { result ≡ map (λ h. h.leaves) self.now.handles }
     {
         self.handles.map(|handle| handle.leaves)
+    }
+
+    // The body, in the bytes of the script.
+    pub(crate) fn body<'a>(&self, bytes: &'a [u8]) -> Block<'a>
+        requires lies { Lies bytes.now self.now }
+        requires short { length bytes.now ≤ 16384 }
+        ensures { piece result ≡ (shown bytes.now self.now).body }
+    {
+        let place = self.place + HEADER;
+        let end = place + self.len;
+        Block {
+            bytes: &bytes[place as usize..end as usize],
+            place,
+        }
     }
 
     // Every handle is away at both ends.
