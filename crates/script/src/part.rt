@@ -1,5 +1,5 @@
 // Parts of a script.
-ghost use Rattle.std.specs.Prelude.{◌≤◌};
+ghost use Rattle.std.specs.Prelude.{◌≡◌, ◌≤◌, length, take};
 
 use crate::block::Block;
 use crate::header::HEADER;
@@ -52,7 +52,7 @@ impl Default for Part {
 }
 
 impl Part {
-    ghost use Rattle.std.specs.Prelude.{◌≡◌, length, map, slice_index, slice_index_or, take};
+    ghost use Rattle.std.specs.Prelude.{map, slice_index, slice_index_or};
     ghost use Rattle.script.specs.Parts.{Lies, away, no_handle, shown};
     ghost use Rattle.script.specs.Pieces.{piece};
 
@@ -113,4 +113,14 @@ impl Part {
             .iter()
             .all(|handle| handle.enters == AWAY && handle.leaves == AWAY)
     }
+}
+
+// The parts by number, and blank ones behind them.
+pub(crate) fn filled(parts: &[Part]) -> [Part; MOST_PARTS]
+    requires { length parts.now ≤ 16 }
+    ensures { take (length parts.now) result ≡ parts.now }
+{
+    let mut all = [Part::default(); MOST_PARTS];
+    all[..parts.len()].copy_from_slice(parts);
+    all
 }
