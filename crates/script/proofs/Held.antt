@@ -1,5 +1,5 @@
 -- What is known of a held script: it passed, and its parts are those of the definition.
-use Rattle.std.proofs.Common.{◌≡◌, ℕ, suc, ◌-◌, List, [], ◌∷◌, map, length, Some, None, Ok, Err, Option, Result, IsOk, MatchOption, Bor, refl, sym, ap, ◌∙◌, subst, arith}
+use Rattle.std.proofs.Common.{◌≡◌, ℕ, suc, ◌-◌, List, [], ◌∷◌, map, length, Some, None, Ok, Err, Option, Result, IsOk, Bor, refl, sym, ap, ◌∙◌, subst, arith}
 use Rattle.std.specs.List.{slice_get}
 use Rattle.std.specs.Option.{option_copied}
 use Rattle.std.proofs.lemmas.Option.{get_or_from_slice_get}
@@ -12,7 +12,7 @@ use Rattle.rules.specs.Check.{Passed, check_script}
 use Rattle.rules.proofs.Decides.{decides}
 use Rattle.script.specs.declared.part.Part.{Part}
 use Rattle.script.specs.declared.script.Script.{Script}
-use Rattle.script.specs.Held.{Holds, book_of, parts_held, script_bytes, script_held}
+use Rattle.script.specs.Held.{IsPart, book_of, parts_held, script_bytes, script_held}
 use Rattle.script.specs.Parts.{Lies, shown}
 use Rattle.script.specs.Scripts.{parts_of}
 use Rattle.script.proofs.Looking.{found_in}
@@ -41,26 +41,25 @@ script_passed s =
 
 -- Its parts
 
--- of a list that may be empty, the last
-main_last : (bs : List ℕ) (ps : List Part) → main_of (map (shown bs) ps) ≡ elim (slice_get ps (length ps - 1)) [ None ↦ no_part | Some p ↦ shown bs p ]
+abbrev shown_or_none : List ℕ → Option Part → rules.Part
+shown_or_none bs None = no_part
+shown_or_none bs (Some p) = shown bs p
+
+main_last : (bs : List ℕ) (ps : List Part) → main_of (map (shown bs) ps) ≡ shown_or_none bs (slice_get ps (length ps - 1))
 main_last bs [] = refl
 main_last bs (p ∷ []) = refl
 main_last bs (p ∷ q ∷ ps) =
     let z : suc (suc (length ps)) - 1 ≡ suc (suc (length ps) - 1) = omega arith in
-    main_last bs (q ∷ ps) ∙ ap (λ (i : ℕ). elim (slice_get (p ∷ q ∷ ps) i) [ None ↦ no_part | Some p ↦ shown bs p ]) (sym z)
+    main_last bs (q ∷ ps) ∙ ap (λ (i : ℕ). shown_or_none bs (slice_get (p ∷ q ∷ ps) i)) (sym z)
 
 -- one that is found by its number lies in the bytes
 found_lies : (s : Script) (i : ℕ) (p : Part) → slice_get (parts_held s) i ≡ Some p → Lies (script_bytes s) p
 found_lies s i p e = subst (Lies (script_bytes s)) (get_or_from_slice_get (parts_held s) i p p e) (s.lie i p (found_in (parts_held s) i p e))
 
-pub main_found : (s : Script) (r : Option (Bor Part)) → option_copied r ≡ slice_get (parts_held s) (length (parts_held s) - 1) →
-    MatchOption r (main_of (script_held s).parts ≡ no_part) (λ p. Holds s (main_of (script_held s).parts) p.now)
+pub main_found : (s : Script) (r : Option (Bor Part)) → option_copied r ≡ slice_get (parts_held s) (length (parts_held s) - 1) → IsPart s (main_of (script_held s).parts) r
 main_found s r e =
-    let ps : List Part = parts_held s in
-    let last : main_of (script_held s).parts ≡ elim (option_copied r) [ None ↦ no_part | Some p ↦ shown (script_bytes s) p ] =
-    ap main_of (sym s.shows) ∙ main_last (script_bytes s) ps ∙ ap (λ (o : Option Part). elim o [ None ↦ no_part | Some p ↦ shown (script_bytes s) p ]) (sym e) in
-    elim r as (λ v. option_copied v ≡ slice_get ps (length ps - 1) → main_of (script_held s).parts ≡ elim (option_copied v) [ None ↦ no_part | Some p ↦ shown (script_bytes s) p ] →
-    MatchOption v (main_of (script_held s).parts ≡ no_part) (λ p. Holds s (main_of (script_held s).parts) p.now)) [
+    let last : main_of (script_held s).parts ≡ shown_or_none (script_bytes s) (option_copied r) = ap main_of (sym s.shows) ∙ main_last (script_bytes s) (parts_held s) ∙ ap (shown_or_none (script_bytes s)) (sym e) in
+    elim r as (λ v. option_copied v ≡ slice_get (parts_held s) (length (parts_held s) - 1) → main_of (script_held s).parts ≡ shown_or_none (script_bytes s) (option_copied v) → IsPart s (main_of (script_held s).parts) v) [
       | None ↦ λ _ l. l
-      | Some p ↦ λ f l. (l, found_lies s (length ps - 1) p.now (sym f))
+      | Some p ↦ λ f l. (l, found_lies s (length (parts_held s) - 1) p.now (sym f))
     ] e last

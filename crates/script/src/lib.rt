@@ -23,4 +23,5 @@ pub use answers::{ANSWERS, ByAnswer};
 pub use block::Block;
 pub use blocks::Blocks;
 pub use command::Command;
+pub use part::HANDLES;
 pub use script::Script;

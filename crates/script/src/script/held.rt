@@ -1,10 +1,10 @@
 // The script that is held: at first empty and passed, later what its checks put in its place.
-ghost use Rattle.std.specs.Prelude.{◌≡◌, [], length, get_or, slice_index, slice_index_or, MatchOption, OnOk, OnErr};
+ghost use Rattle.std.specs.Prelude.{◌≡◌, [], length, get_or, slice_index, OnOk, OnErr};
 ghost use Rattle.book.specs.Held.{bytes_of, kinds_held};
 ghost use Rattle.rules.specs.Check.{check_script};
 ghost use Rattle.rules.specs.Keys.{CheckDecides};
 ghost use Rattle.rules.specs.Script.{main_of, no_part};
-ghost use Rattle.script.specs.Held.{Holds, book_of, parts_held, script_bytes, script_held, verdict};
+ghost use Rattle.script.specs.Held.{IsPart, book_of, parts_held, script_bytes, script_held, verdict};
 ghost use Rattle.script.specs.Pieces.{piece};
 
 use super::Script;
@@ -62,14 +62,14 @@ impl<'a> Script<'a> {
 
     // The part of that number, if there is one.
     fn part(&self, number: u8) -> Option<&Part>
-        ensures { MatchOption result (slice_index_or (script_held self.now).parts number no_part ≡ no_part) (λ p. Holds self.now (slice_index_or (script_held self.now).parts number no_part) p.now) }
+        ensures { IsPart self.now (get_or (script_held self.now).parts number no_part) result }
     {
         self.held().get(number as usize)
     }
 
     // The last, if there is one.
     fn main_part(&self) -> Option<&Part>
-        ensures { MatchOption result (main_of (script_held self.now).parts ≡ no_part) (λ p. Holds self.now (main_of (script_held self.now).parts) p.now) }
+        ensures { IsPart self.now (main_of (script_held self.now).parts) result }
     {
         self.held().last()
     }
