@@ -27,7 +27,7 @@ impl<'a> Loaded<'a> {
         // a script that passed has a book that passes
         let _ = book.check(script.book());
         Loaded {
-            script: *script,
+            script: script.clone(),
             book,
         }
     }
@@ -35,38 +35,35 @@ impl<'a> Loaded<'a> {
     pub(crate) fn ports(&self) -> u8
         ensures { result ≡ (main (held self.now)).handles }
     {
-        0
+        self.script.ports()
     }
 
     pub(crate) fn main(&self) -> Block<'a>
         ensures { piece result ≡ (main (held self.now)).body }
     {
-        Block {
-            bytes: &[],
-            place: 0,
-        }
+        self.script.main()
     }
 
     pub(crate) fn body(&self, part: u8) -> Block<'a>
         ensures { piece result ≡ (get_or (held self.now).parts part no_part).body }
     {
-        Block {
-            bytes: &[],
-            place: 0,
-        }
+        self.script.body(part)
     }
 
     // Where the answer to a letter leads the device of a port.
     pub(crate) fn edge(&self, port: u8, station: u8, letter: u8, answer: u8) -> Option<u8>
         ensures { result ≡ port_table (held self.now) port station letter answer }
     {
-        self.book.edge(port, station, letter, answer)
+        self.book
+            .edge(self.script.kind(port), station, letter, answer)
     }
 
     // The letter by which a port at the station is led towards away; 0 where there is none.
     pub(crate) fn retreat_letter(&self, port: u8, station: u8) -> u8
         ensures { result ≡ homeward (port_kind (held self.now) port) station }
     {
-        self.book.retreat_letter(port, station).unwrap_or_default()
+        self.book
+            .retreat_letter(self.script.kind(port), station)
+            .unwrap_or_default()
     }
 }
