@@ -27,7 +27,7 @@ impl<'a> Loaded<'a> {
         // a script that passed has a book that passes
         let _ = book.check(script.book());
         Loaded {
-            script: script.clone(),
+            script: *script,
             book,
         }
     }
