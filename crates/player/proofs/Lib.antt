@@ -1,2 +1,2 @@
-pub mod Passing
 pub mod Performing
+pub mod Rooms

@@ -2,7 +2,7 @@ use Rattle.std.proofs.Common.{refl, sym, ap}
 use Rattle.machine.specs.Runs.{begins, goes, looks, strikes}
 use Rattle.script.specs.Held.{script_held}
 use Rattle.player.specs.Performing.{request}
-use Rattle.player.proofs.Passing.{script_passed}
+use Rattle.script.proofs.Held.{script_passed}
 use Rattle.player.proofs.Performing.{go_joins, strike_joins}
 use Rattle.player.proofs.player.Player.answer.Goals as goal
 
