@@ -11,3 +11,5 @@ mod perform;
 mod player;
 mod stage;
 mod telling;
+#[cfg(test)]
+mod tests;
