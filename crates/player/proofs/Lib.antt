@@ -1,1 +1,3 @@
+mod Coming
 mod EachPort
+mod Retreating
