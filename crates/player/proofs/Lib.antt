@@ -1,3 +1,4 @@
 mod Coming
 mod EachPort
 mod Retreating
+pub mod Rooms

@@ -1,5 +1,5 @@
 -- The open blocks, the topmost first.
-use Rattle.std.specs.Prelude.{List, [], ◌∷◌, map, reverse}
+use Rattle.std.specs.Prelude.{Bool, true, false, List, [], ◌∷◌, map, reverse}
 use Rattle.rules.specs.Script.{Block}
 use Rattle.script.specs.Pieces.{piece}
 use Rattle.machine.specs.Player as machine
@@ -17,3 +17,8 @@ frames_of o = reverse (map frame_of o.frames.items)
 abbrev pub passed : Block → List machine.Frame → List machine.Frame
 passed rest [] = []
 passed rest (f ∷ fs) = opened rest f.ports fs
+
+-- nothing is left of the topmost
+abbrev pub at_end : List machine.Frame → Bool
+at_end [] = false
+at_end (f ∷ fs) = elim f.block.bytes [ [] ↦ true | b ∷ bs ↦ false ]

@@ -61,7 +61,7 @@ impl<'a> Stage<'a> {
                 self.open.pass(rest);
                 let entry = self.tell(loaded, rig, top.port(handle), letter);
                 self.open.push(Frame {
-                    block: blocks.whole,
+                    block: blocks.block(entry.answer),
                     ports,
                 });
                 Step {

@@ -1,8 +1,8 @@
 // The blocks of a script that are open.
-ghost use Rattle.std.specs.Prelude.{◌≡◌, ◌<◌, [], ◌∷◌, length, option_map, slice_get, ◌==◌};
+ghost use Rattle.std.specs.Prelude.{◌≡◌, ◌<◌, [], ◌∷◌, drop, length, option_map, slice_get, ◌==◌};
 ghost use Rattle.machine.specs.Steps.{unwound};
 ghost use Rattle.script.specs.Pieces.{piece};
-ghost use Rattle.player.specs.Frames.{frame_of, frames_of, passed};
+ghost use Rattle.player.specs.Frames.{at_end, frame_of, frames_of, passed};
 
 use arrayvec::ArrayVec;
 use script::Block;
@@ -61,14 +61,9 @@ impl<'a> OpenBlocks<'a> {
     pub(crate) fn pass(&mut self, rest: Block<'a>)
         ensures { frames_of self.new ≡ passed (piece rest.entry) (frames_of self.old) }
     {
-        if let Some(top) = self.top_mut() {
+        if let [.., top] = self.frames.as_mut_slice() {
             top.block = rest;
         }
-    }
-
-    fn top_mut(&mut self) -> Option<&mut Frame<'a>> {
-        let last = self.frames.len().checked_sub(1)?;
-        self.frames.get_mut(last)
     }
 
     pub(crate) fn push(&mut self, frame: Frame<'a>)
@@ -84,12 +79,24 @@ impl<'a> OpenBlocks<'a> {
         self.frames.clear();
     }
 
+    fn at_end(&self) -> bool
+        ensures { result ≡ at_end (frames_of self.now) }
+    {
+        self.top().is_some_and(|frame| frame.block.bytes.is_empty())
+    }
+
+    fn pop(&mut self)
+        ensures { frames_of self.new ≡ drop 1 (frames_of self.old) }
+    {
+        self.frames.pop();
+    }
+
     // Leaves the blocks that are at their end.
     pub(crate) fn unwind(&mut self)
         ensures { frames_of self.new ≡ unwound (frames_of self.old) }
     {
-        while self.top().is_some_and(|frame| frame.block.bytes.is_empty()) {
-            self.frames.pop();
+        while self.at_end() {
+            self.pop();
         }
     }
 }
@@ -101,19 +108,13 @@ impl Frame<'_> {
     pub(crate) fn port(&self, handle: u8) -> u8
         ensures { result ≡ slice_index self.now.ports handle }
     {
-        self.ports
-            .get(handle as usize)
-            .copied()
-            .unwrap_or_default()
+        self.ports.get(handle as usize).copied().unwrap_or_default()
     }
 
     // The port to which a part's handle is bound that a RUN binds to this one; 255 past the eighth.
     pub(crate) fn bound(&self, handle: u8) -> u8
         ensures { result ≡ get_or self.now.ports handle 255 }
     {
-        self.ports
-            .get(handle as usize)
-            .copied()
-            .unwrap_or(255)
+        self.ports.get(handle as usize).copied().unwrap_or(255)
     }
 }

@@ -1,4 +1,7 @@
 // What a player keeps besides its script.
+ghost use Rattle.std.specs.Prelude.{◌≡◌, ◌≤◌, ◌-◌, ◌++◌, replicate};
+ghost use Rattle.rules.specs.Lists.{from};
+
 use crate::loaded::Loaded;
 use crate::open_blocks::{Frame, OpenBlocks};
 use arrayvec::ArrayVec;
@@ -18,8 +21,28 @@ pub struct Stage<'a> {
     pub open: OpenBlocks<'a>,
 }
 
+// So many ports that are away.
+fn all_away(ports: u8) -> ArrayVec<u8, 8>
+    requires { ports ≤ 8 }
+    ensures { result.items ≡ replicate ports 0 }
+{
+    let mut stations = ArrayVec::new();
+    for _ in 0..ports {
+        stations.push(AWAY);
+    }
+    stations
+}
+
+// The ports of main's handles: that of each handle has its number.
+fn own_ports(ports: u8) -> [u8; 8]
+    requires { ports ≤ 8 }
+    ensures { result ≡ from 0 ports ++ replicate (8 - ports) 255 }
+{
+    array::from_fn(|i| if i < ports as usize { i as u8 } else { 255 })
+}
+
 impl<'a> Stage<'a> {
-    ghost use Rattle.std.specs.Prelude.{◌≡◌, ◌≤◌, slice_index};
+    ghost use Rattle.std.specs.Prelude.{◌<◌, slice_index};
     ghost use Rattle.rules.specs.Script as rules;
     ghost use Rattle.rules.specs.Script.{empty_script};
     ghost use Rattle.machine.specs.Player.{begun, finished, main, new_player, with_register, with_station};
@@ -41,24 +64,21 @@ impl<'a> Stage<'a> {
 
     // At the start of main, whose handles are so many ports.
     pub(crate) fn begun(loaded: &Loaded<'a>, ports: u8) -> Stage<'a>
+        requires some { 0 < ports }
         requires few { ports ≤ 8 }
         requires own { ports ≡ (main (held loaded.now)).handles }
         ensures begun { seen (held loaded.now) result ≡ begun (held loaded.now) }
         ensures room { Room (held loaded.now) result }
     {
-        let mut stations = ArrayVec::new();
-        for _ in 0..ports {
-            stations.push(AWAY);
-        }
         let mut open = OpenBlocks::new();
         open.push(Frame {
             block: loaded.main(),
-            ports: array::from_fn(|i| if i < ports as usize { i as u8 } else { 255 }),
+            ports: own_ports(ports),
         });
         Stage {
             over: false,
             registers: [0; REGISTERS],
-            stations,
+            stations: all_away(ports),
             open,
         }
     }
@@ -94,8 +114,9 @@ impl<'a> Stage<'a> {
     pub(crate) fn set_register(&mut self, register: u8, value: u8)
         ensures { (s : rules.Script) → seen s self.new ≡ with_register (seen s self.old) register value }
     {
-        if let Some(held) = self.registers.get_mut(register as usize) {
-            *held = value;
+        let i = register as usize;
+        if i < REGISTERS {
+            self.registers[i] = value;
         }
     }
 

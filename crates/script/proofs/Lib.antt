@@ -13,3 +13,4 @@ pub mod Mains
 pub mod Placed
 pub mod Behind
 pub mod Whole
+pub mod Held

@@ -20,7 +20,7 @@ use Rattle.script.specs.Parts.{shown}
 use Rattle.script.specs.Scopes.{scope_of}
 
 -- what is found stands in the list, and what is not lies beyond it
-found_in : {X : Type 0} (xs : List X) (i : ℕ) (x : X) → slice_get xs i ≡ Some x → i < length xs
+pub found_in : {X : Type 0} (xs : List X) (i : ℕ) (x : X) → slice_get xs i ≡ Some x → i < length xs
 found_in xs i x e = elim (dec_lt i (length xs)) [
   | yes lt ↦ lt
   | no nl ↦ let le : length xs ≤ i = omega (arith, nl) in absurd (none_some (sym (slice_get_past xs i le) ∙ e))

@@ -1,5 +1,5 @@
 -- The laws of the check of a block: by its first command and the rest.
-use Rattle.std.proofs.Common.{◌≡◌, ℕ, suc, ◌+◌, ◌<◌, ◌≤◌, true, false, List, [], ◌∷◌, ◌++◌, length, get_or, drop, Ok, Err, Option, Result, sym, refl, ap, ◌∙◌, true≢false, arith, drop-cons}
+use Rattle.std.proofs.Common.{◌≡◌, ℕ, suc, ◌+◌, ◌<◌, ◌≤◌, true, false, List, [], ◌∷◌, ◌++◌, length, get_or, drop, None, Ok, Err, Option, Result, sym, refl, ap, ◌∙◌, true≢false, arith, drop-cons, drop-drop}
 use Rattle.faults.specs.declared.fault.Fault.{Fault}
 use Rattle.faults.specs.declared.causes.LayoutCause.TheVariants.{BadCommand, OutOfRange, TooDeep}
 use Rattle.faults.specs.declared.causes.KeyCause.TheVariants.{NotAllowed, UndeclaredBlock, EndsDiffer, BodyEnd}
@@ -133,11 +133,9 @@ module _ (check : Checks) (ks : Keys) (h : ℕ) where
   abbrev pub behind : List Keys → List (Option ℕ) → List Block → Result (List Keys) Fault
   behind ends ts bs = branches check ks h ts bs >>= (λ more. Ok (ends ++ more))
 
-  -- the next answer, with its block in front of the others
-  pub turn : (ends : List Keys) (to : List (Option ℕ)) (ns : List ℕ) (n : ℕ) (o : Option ℕ) (len : ℕ) (b : Block) → n < length to → n < length ns → o ≡ get_or to n o → len ≡ get_or ns n len →
-      behind ends (drop n to) (cut b.place b.bytes (drop n ns)) ≡ behind ends (o ∷ drop (n + 1) to) (front len b ∷ cut (past len b).place (past len b).bytes (drop (n + 1) ns))
-  turn ends to ns n o len b lt lt' e e' =
-      let z : suc n ≡ n + 1 = omega arith in
-      let ts : drop n to ≡ o ∷ drop (n + 1) to = drop-cons to n o lt ∙ (λ i. sym e i ∷ drop (z i) to) in
-      let ms : drop n ns ≡ len ∷ drop (n + 1) ns = drop-cons ns n len lt' ∙ (λ i. sym e' i ∷ drop (z i) ns) in
-      λ i. behind ends (ts i) (cut b.place b.bytes (ms i))
+  -- an answer that is not declared has no branch
+  pub undeclared : (ends : List Keys) (to : List (Option ℕ)) (bs : List Block) (n m : ℕ) → n < length to → get_or to n None ≡ None → m ≡ n + 1 → behind ends (drop n to) (drop n bs) ≡ behind ends (drop m to) (drop m bs)
+  undeclared ends to bs n m lt e f =
+      let z : suc n ≡ m = omega (arith, f) in
+      let rest : drop n to ≡ None ∷ drop m to = drop-cons to n None lt ∙ (λ i. e i ∷ drop (z i) to) in
+      (λ i. behind ends (rest i) (drop n bs)) ∙ ap (behind ends (drop m to)) (drop-drop 1 n bs ∙ ap (λ (k : ℕ). drop k bs) (sym f))

@@ -5,7 +5,7 @@ use Rattle.faults.specs.declared.causes.LayoutCause.TheVariants.{BadCommand}
 use Rattle.faults.specs.Numbers.{layout_fault}
 use Rattle.rules.specs.Lists.{total}
 use Rattle.rules.specs.Script as rules
-use Rattle.rules.specs.Script.{cut, first, in_range, send, ask, repeat, run, store, dec, cue, fail, nothing, broken, command}
+use Rattle.rules.specs.Script.{cut, in_range, send, ask, repeat, run, store, dec, cue, fail, broken, command}
 use Rattle.script.specs.declared.block.Block.{Block}
 use Rattle.script.specs.declared.command.Command.{Command}
 use Rattle.script.specs.declared.command.Command.TheVariants.{Send, Ask, Repeat, Run, Set, Dec, Cue, Fail}
@@ -37,6 +37,11 @@ abbrev pub Gives : ℕ → Result (Command × Block) Fault → rules.Read → Ty
 Gives place (Ok x) q = q ≡ command (said x.0) (piece x.1)
 Gives place (Err e) q = (q ≡ broken) × (e ≡ layout_fault BadCommand place)
 
+-- what a block begins with: nothing exactly where it is empty
+abbrev pub Begins : Block → Option (Result (Command × Block) Fault) → Type 0
+Begins b None = rules.first (piece b) ≡ rules.nothing
+Begins b (Some r) = Gives b.place r (rules.first (piece b))
+
 -- an ASK and a REPEAT whose blocks stand in the tail
 abbrev pub ask_at : ℕ → ℕ → List ℕ → rules.Block → rules.Read
 ask_at h l ns tail =
@@ -48,8 +53,3 @@ ask_at h l ns tail =
 abbrev pub repeat_at : ℕ → ℕ → rules.Block → rules.Read
 repeat_at r n tail =
     elim (nat_le n (length tail.bytes)) [ false ↦ broken | true ↦ command (repeat r (front n tail)) (past n tail) ]
-
--- what a block begins with: none where it is empty
-abbrev pub Begins : Block → Option (Result (Command × Block) Fault) → Type 0
-Begins b None = first (piece b) ≡ nothing
-Begins b (Some r) = Gives b.place r (first (piece b))

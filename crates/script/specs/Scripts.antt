@@ -1,5 +1,6 @@
 -- The parts of a whole script, and its check.
-use Rattle.std.specs.Prelude.{◌≡◌, ℕ, List, [], ◌∷◌, map, length, Ok, Err, Result}
+use Rattle.std.specs.Prelude.{◌≡◌, ℕ, ◌≤◌, List, [], ◌∷◌, map, length, Ok, Err, Result}
+use Rattle.std.specs.List.{All}
 use Rattle.arrayvec.specs.ArrayVec.{ArrayVec}
 use Rattle.faults.specs.declared.fault.Fault.{Fault}
 use Rattle.faults.specs.declared.causes.KeyCause.TheVariants.{MainHeld}
@@ -10,7 +11,7 @@ use Rattle.rules.specs.Script as rules
 use Rattle.rules.specs.Script.{read_part}
 use Rattle.rules.specs.Check.{check_body}
 use Rattle.script.specs.declared.part.Part.{Part}
-use Rattle.script.specs.Parts.{away, shown}
+use Rattle.script.specs.Parts.{away, shown, Lies}
 
 -- One part
 
@@ -35,11 +36,11 @@ check_main (p ∷ q ∷ ps) = check_main (q ∷ ps)
 -- All of them
 
 abbrev pub GivesParts : List ℕ → Result (ArrayVec Part) Fault → Result (List rules.Part) Fault → Type 0
-GivesParts bs (Ok t) q = q ≡ Ok (map (shown bs) t.items)
+GivesParts bs (Ok t) q = (q ≡ Ok (map (shown bs) t.items)) × All (Lies bs) t.items
 GivesParts bs (Err e) q = q ≡ Err e
 
 abbrev pub GivesScript : List Kind → List ℕ → Result (ArrayVec Part) Fault → Result rules.Script Fault → Type 0
-GivesScript book bs (Ok t) q = q ≡ Ok (record { book = book; parts = map (shown bs) t.items })
+GivesScript book bs (Ok t) q = (q ≡ Ok (record { book = book; parts = map (shown bs) t.items })) × All (Lies bs) t.items × (length bs ≤ 16384)
 GivesScript book bs (Err e) q = q ≡ Err e
 
 abbrev pub parts_of : Result rules.Script Fault → List rules.Part

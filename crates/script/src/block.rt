@@ -11,7 +11,18 @@ pub struct Block<'a> {
 }
 
 impl<'a> Block<'a> {
+    ghost use Rattle.rules.specs.Script.{no_block};
     ghost use Rattle.script.specs.Pieces.{front, past, piece};
+
+    // The block without bytes.
+    pub fn empty() -> Block<'a>
+        ensures { piece result ≡ no_block }
+    {
+        Block {
+            bytes: &[],
+            place: 0,
+        }
+    }
 
     // What is behind the front of the block.
     pub(crate) fn behind(self, rest: &'a [u8]) -> Block<'a>

@@ -2,7 +2,7 @@
 ghost use Rattle.std.specs.Prelude.{◌≡◌, ◌<◌, length};
 ghost use Rattle.rules.specs.Lists.{joined};
 ghost use Rattle.rules.specs.Script.{first};
-ghost use Rattle.script.specs.Commands.{Gives, ask_at, repeat_at};
+ghost use Rattle.script.specs.Commands.{Begins, Gives, ask_at, repeat_at};
 ghost use Rattle.script.specs.Pieces.{piece};
 
 use crate::answers::ByAnswer;
@@ -112,6 +112,19 @@ fn read_repeat<'a>(
     Ok((Command::Repeat { register, block }, rest))
 }
 
+impl<'a> Block<'a> {
+    // Its first command and the rest, unless it is empty.
+    pub fn first(self) -> Option<Result<(Command<'a>, Block<'a>), Fault>>
+        ensures { Begins self.entry result }
+    {
+        if self.bytes.is_empty() {
+            None
+        } else {
+            Some(read_command(self))
+        }
+    }
+}
+
 // The first command of a block that is not empty, and the rest. Operands are patterns, by a rule of the project.
 pub(crate) fn read_command<'a>(block: Block<'a>) -> Result<(Command<'a>, Block<'a>), Fault>
     requires { 0 < length (piece block).bytes }
@@ -183,20 +196,5 @@ pub(crate) fn read_command<'a>(block: Block<'a>) -> Result<(Command<'a>, Block<'
         )),
         [FAIL, code, rest @ ..] => Ok((Command::Fail { code: *code }, block.behind(rest))),
         _ => Err(LayoutCause::BadCommand.at(place)),
-    }
-}
-
-impl<'a> Block<'a> {
-    ghost use Rattle.script.specs.Commands.{Begins};
-
-    // The first command and the rest; none where the block is empty.
-    pub fn first(self) -> Option<Result<(Command<'a>, Block<'a>), Fault>>
-        ensures { Begins self.entry result }
-    {
-        if self.bytes.is_empty() {
-            None
-        } else {
-            Some(read_command(self))
-        }
     }
 }

@@ -19,7 +19,9 @@ mod successors;
 mod tests;
 mod walk;
 
+pub use answers::{ANSWERS, ByAnswer};
 pub use block::Block;
 pub use blocks::Blocks;
 pub use command::Command;
+pub use part::HANDLES;
 pub use script::Script;

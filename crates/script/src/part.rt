@@ -1,6 +1,8 @@
 // Parts of a script.
-ghost use Rattle.std.specs.Prelude.{◌≤◌};
+ghost use Rattle.std.specs.Prelude.{◌≡◌, ◌≤◌, length, take};
 
+use crate::block::Block;
+use crate::header::HEADER;
 use crate::keys::Keys;
 use arrayvec::ArrayVec;
 use protocol::AWAY;
@@ -50,8 +52,9 @@ impl Default for Part {
 }
 
 impl Part {
-    ghost use Rattle.std.specs.Prelude.{◌≡◌, map, slice_index, slice_index_or, take};
-    ghost use Rattle.script.specs.Parts.{away, no_handle};
+    ghost use Rattle.std.specs.Prelude.{map, slice_index, slice_index_or};
+    ghost use Rattle.script.specs.Parts.{Lies, away, no_handle, shown};
+    ghost use Rattle.script.specs.Pieces.{piece};
 
     pub(crate) fn own_handles(&self) -> &[Handle]
         ensures { result.now ≡ take self.now.own self.now.handles }
@@ -88,6 +91,20 @@ impl Part {
         self.handles.map(|handle| handle.leaves)
     }
 
+    // The body, in the bytes of the script.
+    pub(crate) fn body<'a>(&self, bytes: &'a [u8]) -> Block<'a>
+        requires lies { Lies bytes.now self.now }
+        requires short { length bytes.now ≤ 16384 }
+        ensures { piece result ≡ (shown bytes.now self.now).body }
+    {
+        let place = self.place + HEADER;
+        let end = place + self.len;
+        Block {
+            bytes: &bytes[place as usize..end as usize],
+            place,
+        }
+    }
+
     // Every handle is away at both ends.
     pub(crate) fn is_away(&self) -> bool
         ensures { result ≡ away self.now }
@@ -96,4 +113,14 @@ impl Part {
             .iter()
             .all(|handle| handle.enters == AWAY && handle.leaves == AWAY)
     }
+}
+
+// The parts by number, and blank ones behind them.
+pub(crate) fn filled(parts: &[Part]) -> [Part; MOST_PARTS]
+    requires { length parts.now ≤ 16 }
+    ensures { take (length parts.now) result ≡ parts.now }
+{
+    let mut all = [Part::default(); MOST_PARTS];
+    all[..parts.len()].copy_from_slice(parts);
+    all
 }

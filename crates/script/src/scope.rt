@@ -4,7 +4,6 @@ ghost use Rattle.std.specs.Prelude.{◌+◌, ◌≤◌, length};
 use crate::block::Block;
 use crate::command::Command;
 use crate::draft::Draft;
-use crate::header::HEADER;
 use crate::part::{HANDLES, Part};
 use crate::run::Run;
 use crate::successors::Successors;
@@ -34,12 +33,7 @@ impl<'a> Scope<'a> {
     pub(crate) fn body(&self) -> Block<'a>
         ensures { piece result ≡ (scope_of self.now).running.body }
     {
-        let place = self.running.place + HEADER;
-        let end = place + self.running.len;
-        Block {
-            bytes: &self.draft.bytes[place as usize..end as usize],
-            place,
-        }
+        self.running.body(self.draft.bytes)
     }
 
     // Where each answer to a letter leads the device of a handle.

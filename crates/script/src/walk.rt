@@ -54,14 +54,12 @@ impl Level<'_> {
         ensures { GivesEnds result (branch_ends (scope_at self.now) self.now.depth handle to.now (pieces blocks.entry) keys) }
     {
         let mut ends = ArrayVec::new();
-        let mut rest = blocks.whole;
-        for (to, len) in to.iter().zip(&blocks.lengths) {
-            let (block, behind) = rest.cut(*len);
+        let branches = blocks.by_answer();
+        for (to, block) in to.iter().zip(&branches) {
             if let Some(station) = to {
-                let end = self.check_block(block, moved(keys, handle, *station))?;
+                let end = self.check_block(*block, moved(keys, handle, *station))?;
                 ends.push(end);
             }
-            rest = behind;
         }
         Ok(ends)
     }

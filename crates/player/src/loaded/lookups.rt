@@ -35,19 +35,19 @@ impl<'a> Loaded<'a> {
     pub(crate) fn ports(&self) -> u8
         ensures { result ≡ (main (held self.now)).handles }
     {
-        0
+        self.script.ports()
     }
 
     pub(crate) fn main(&self) -> Block<'a>
         ensures { piece result ≡ (main (held self.now)).body }
     {
-        Block { bytes: &[], place: 0 }
+        self.script.main()
     }
 
     pub(crate) fn body(&self, part: u8) -> Block<'a>
         ensures { piece result ≡ (get_or (held self.now).parts part no_part).body }
     {
-        Block { bytes: &[], place: 0 }
+        self.script.body(part)
     }
 
     // Where the answer to a letter leads the device of a port.
@@ -55,7 +55,7 @@ impl<'a> Loaded<'a> {
         ensures { result ≡ port_table (held self.now) port station letter answer }
     {
         self.book
-            .edge(port, station, letter, answer)
+            .edge(self.script.kind(port), station, letter, answer)
     }
 
     // The letter by which a port at the station is led towards away; 0 where there is none.
@@ -63,7 +63,7 @@ impl<'a> Loaded<'a> {
         ensures { result ≡ homeward (port_kind (held self.now) port) station }
     {
         self.book
-            .retreat_letter(port, station)
+            .retreat_letter(self.script.kind(port), station)
             .unwrap_or_default()
     }
 }

@@ -1,4 +1,5 @@
-use Rattle.std.proofs.Common.{◌≡◌, suc, ◌≤◌, eqb, List, length, Err, refl, sym, ap, ◌∙◌, inl, inr, arith, le-ltb}
+use Rattle.std.proofs.Common.{◌≡◌, suc, ◌≤◌, eqb, List, length, Err, refl, sym, ap, ◌∙◌, inl, inr, arith, le-ltb, rules, None, ◌+◌, [], ◌∷◌, ◌++◌, length-append}
+use Rattle.std.proofs.lemmas.Slice.Zip.{zip_turn}
 use Rattle.std.proofs.lemmas.Bool.Decides.{nat_tests}
 use Rattle.std.specs.Option.{ok_or}
 use lib.Pointwise.{pointwise}
@@ -19,7 +20,7 @@ use Rattle.script.specs.Walk.{ask_keys, block_keys, repeat_keys}
 use Rattle.script.proofs.Turns.{passed, or_faulty}
 use Rattle.script.proofs.Joining.{join_common}
 use Rattle.script.proofs.Testing.{same_turned}
-use Rattle.script.proofs.Walking.{at_end, unread, stops, goes_on, out_of_range, not_so, so, stands_too_deep, settled, not_spare, branch_fails, branches_end}
+use Rattle.script.proofs.Walking.{at_end, unread, stops, goes_on, out_of_range, not_so, so, undeclared, stands_too_deep, settled, not_spare, branch_fails, branches_end}
 use Rattle.script.proofs.Looking.{runs}
 use Rattle.script.proofs.level.Level.+blocks.Goals as goal
 
@@ -119,3 +120,13 @@ check_command-returns-in-Some t c =
     c.check.ensures ∙ (λ i. run_keys (w.2 i) c.args.place c.in-Some.run'.part.now (w.3 i) c.args.keys)
     ∙ sym (settled x _ _ _ c.args.command _ c.in-Run.is w.0 refl
     ∙ runs c.args.self.now.scope.now c.in-Run.part (block_keys x (suc c.args.self.now.depth)) c.args.place c.in-Run.bindings c.args.keys c.in-Some.run'.part.now w.1)
+
+-- Branches
+
+pub check_branches-loop-to-preserved : goal.check_branches-loop-to-preserved
+check_branches-loop-to-preserved t c =
+    let here = zip_turn c.args.to.now c.by_answer-branches.result c.loop-to.yielded _ c.loop-to.to-iterator c.next.new.self c.next.result (search rules) (search rules) c.loop-to.yielded_by (c.in-Some.to, c.in-Some.block) c.in-Some.is c.next.ensures.steps in
+    let one_more : length (c.loop-to.yielded ++ ((c.in-Some.to, c.in-Some.block) ∷ [])) ≡ length c.loop-to.yielded + 1 = length-append c.loop-to.yielded ((c.in-Some.to, c.in-Some.block) ∷ []) in (
+      c.loop-to.invariant.0 ∙ undeclared (block_keys (scope_at c.args.self.now) c.args.self.now.depth) c.args.keys c.args.handle c.loop-to.ends.items c.args.to.now (pieces c.args.blocks) (length c.loop-to.yielded) _ here.0 (sym (here.2 None) ∙ c.in_default.is) one_more,
+      omega (arith, one_more, c.loop-to.invariant.1),
+    )

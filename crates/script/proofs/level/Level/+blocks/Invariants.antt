@@ -1,6 +1,4 @@
 use Rattle.std.proofs.Common.{◌≡◌, ◌+◌, ◌-◌, ◌*◌, ◌≤◌, length, drop}
-use Rattle.rules.specs.Lists.{total}
-use Rattle.rules.specs.Script.{cut}
 use Rattle.script.specs.Levels.{scope_at}
 use Rattle.script.specs.Pieces.{piece, pieces}
 use Rattle.script.specs.Walk.{block_keys, branch_ends}
@@ -35,6 +33,5 @@ abbrev pub invariant-check_branches-loop-to : goal.invariant-check_branches-loop
 invariant-check_branches-loop-to l =
     let n = length l.yielded in
     (branch_ends (scope_at l.self) l.self.depth l.handle l.fn.to (pieces l.fn.blocks) l.keys
-    ≡ behind (block_keys (scope_at l.self) l.self.depth) l.keys l.handle l.ends.items (drop n l.fn.to) (cut l.rest.place l.rest.bytes.now (drop n l.fn.blocks.lengths)))
-    × (total (drop n l.fn.blocks.lengths) ≤ length l.rest.bytes.now)
+    ≡ behind (block_keys (scope_at l.self) l.self.depth) l.keys l.handle l.ends.items (drop n l.fn.to) (drop n (pieces l.fn.blocks)))
     × (length l.ends.items ≤ n)
