@@ -1,6 +1,7 @@
 -- A dialogue that has come some way: what is so far stands in the log, and whatever the rest of it comes to completes the whole.
-use Rattle.std.proofs.Common.{◌≡◌, ℕ, suc, ◌+◌, ◌<◌, List, [], ◌∷◌, ◌++◌, length, take, drop, set, sym, refl, ap, ◌∙◌, subst, subst₂, append_assoc, append-nil, arith, length-append}
-use Rattle.std.proofs.lemmas.List.{drop-drop, set_split}
+use Rattle.std.proofs.Common.{◌≡◌, ℕ, suc, ◌+◌, ◌-◌, ◌<◌, List, [], ◌∷◌, ◌++◌, length, take, drop, set, sym, refl, ap, ◌∙◌, subst, subst₂, append_assoc, append-nil, arith, length-append}
+use Rattle.std.proofs.lemmas.List.{drop-drop, drop_all, set_split, take_rest}
+use borrow.Rule.Slice.PartMut.{mid_of, put_mid}
 use lib.Seq.{take-append_seam, drop-append_seam}
 use Rattle.protocol.specs.declared.edges.Entry.{Entry}
 use Rattle.device.specs.Ports.{Ports, RigHears}
@@ -46,6 +47,15 @@ module _ {X : Type 0} {whole : Dialogue X} {g₀ : Ports} {log₀ : Log} {k : �
             ∙ written_more b.sofar es log₀;
         completes = λ es' g' x h. subst (λ (v : List Entry). Plays whole g₀ v g' x) (sym (append_assoc b.sofar es es')) (b.completes (es ++ es') g' x (plays_then f d.1 h));
       }
+
+  -- one that has the log from there on
+  pub coming_part : {Y : Type 0} {t : Dialogue Y} (f : Y → Dialogue X) → Coming whole g₀ log₀ k (t >>= f) g log →
+      {n : ℕ} {y : Y} {g' : Ports} {log' : Log} → Told t g (mid_of k (length log - k) log) n y g' log' →
+      Coming whole g₀ log₀ (k + n) (f y) g' (put_mid k (length log - k) log log')
+  coming_part {t = t} f b {n} {y} {g'} {log'} d =
+      let behind : drop (length log - k) (drop k log) ≡ [] = drop-drop (length log - k) k log ∙ drop_all (k + (length log - k)) log (omega arith) in
+      subst (λ (v : Log). Coming whole g₀ log₀ (k + n) (f y) g' (take k log ++ v)) (sym (ap (λ (v : Log). log' ++ v) behind ∙ append-nil log'))
+      (coming_then f b (subst (λ (v : Log). Told t g v n y g' log') (take_rest log k) d))
 
   pub coming_done : {x : X} → Coming whole g₀ log₀ k (done x) g log → Told whole g₀ log₀ k x g log
   coming_done {x} b = (

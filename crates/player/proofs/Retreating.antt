@@ -1,13 +1,15 @@
 -- Fault exits, letter by letter and port by port.
-use Rattle.std.proofs.Common.{◌≡◌, ℕ, zero, suc, ◌+◌, ◌-◌, ◌<◌, ◌≢◌, List, [], ◌∷◌, length, set, sym, refl, ap, ◌∙◌, subst, arith}
+use Rattle.std.proofs.Common.{◌≡◌, ℕ, zero, suc, ◌+◌, ◌-◌, ◌<◌, ◌≤◌, ◌≢◌, List, [], ◌∷◌, length, set, sym, refl, ap, ◌∙◌, subst, arith}
+use borrow.Rule.Slice.PartMut.{mid_of, put_mid}
 use Rattle.protocol.specs.declared.edges.Entry.{Entry}
 use Rattle.device.specs.Ports.{Ports, RigHears}
+use Rattle.rules.specs.Lists.{from}
 use Rattle.machine.specs.Dialogue.{Dialogue, ◌>>=◌, done, entry_in, tells}
-use Rattle.machine.specs.Player.{Player, kept, led, tell, with_station}
-use Rattle.machine.specs.Exits.{retreat_from, retreat_letter, withdraw}
+use Rattle.machine.specs.Player.{Player, finished, kept, led, tell, with_station}
+use Rattle.machine.specs.Exits.{retreat_from, retreat_letter, withdraw, withdraw_all, fault_exit}
 use Rattle.machine.specs.Calls.{Log}
 use Rattle.player.specs.Told.{Told}
-use Rattle.player.proofs.Coming.{Coming, coming_as, coming_done, coming_then, told_letter, written_at}
+use Rattle.player.proofs.Coming.{Coming, coming_as, coming_done, coming_part, coming_then, told_letter, written_at}
 
 pub bind_assoc : {X Y Z : Type 0} (t : Dialogue X) (f : X → Dialogue Y) (h : Y → Dialogue Z) → ((t >>= f) >>= h) ≡ (t >>= (λ x. f x >>= h))
 bind_assoc (done x) f h = refl
@@ -42,3 +44,26 @@ pub retreated : {whole : Dialogue Player} {g₀ : Ports} {log₀ : Log} (m k i :
 retreated {whole} {g₀} {log₀} m k i p {g} {log} b all =
     let none : m - k ≡ 0 = omega (arith, all) in
     subst (λ n. Told whole g₀ log₀ n p g log) all (coming_done (coming_as (ap (λ j. withdraw j i p) none) b))
+
+-- Port by port
+
+-- the ports from one on, below another, are left
+abbrev pub Exiting : Player → Ports → Log → ℕ → ℕ → ℕ → Player → Ports → Log → Type 0
+Exiting p₀ g₀ log₀ k i e p g log = Coming (fault_exit p₀) g₀ log₀ k (withdraw_all (from i (e - i)) p >>= (λ q. done (finished q))) g log
+
+module _ (p₀ : Player) (g₀ : Ports) (log₀ : Log) (k i e : ℕ) (p : Player) (g : Ports) (log : Log) (b : Exiting p₀ g₀ log₀ k i e p g log) where
+  pub exits_more : i < e → {n : ℕ} {q : Player} {g' : Ports} {log' : Log} → Told (withdraw 15 i p) g (mid_of k (length log - k) log) n q g' log' →
+      Exiting p₀ g₀ log₀ (k + n) (i + 1) e q g' (put_mid k (length log - k) log log')
+  exits_more lt {n} {q} {g'} {log'} d =
+      let next : suc i ≡ i + 1 = omega arith in
+      let left : e - i ≡ suc (e - (i + 1)) = omega arith in
+      let others : Player → Dialogue Player = λ x. withdraw_all (from (suc i) (e - (i + 1))) x in
+      let rest : (withdraw_all (from i (e - i)) p >>= (λ x. done (finished x))) ≡ (withdraw 15 i p >>= (λ x. others x >>= (λ y. done (finished y)))) =
+      ap (λ m. withdraw_all (from i m) p >>= (λ x. done (finished x))) left ∙ bind_assoc (withdraw 15 i p) others (λ x. done (finished x)) in
+      subst (λ j. Coming (fault_exit p₀) g₀ log₀ (k + n) (withdraw_all (from j (e - (i + 1))) q >>= (λ x. done (finished x))) g' (put_mid k (length log - k) log log')) next
+      (coming_part (λ x. others x >>= (λ y. done (finished y))) (coming_as rest b) d)
+
+  pub exited : e ≤ i → {q : Player} → q ≡ finished p → Told (fault_exit p₀) g₀ log₀ k q g log
+  exited le s =
+      let none : e - i ≡ 0 = omega arith in
+      subst (λ (x : Player). Told (fault_exit p₀) g₀ log₀ k x g log) (sym s) (coming_done (coming_as (ap (λ n. withdraw_all (from i n) p >>= (λ x. done (finished x))) none) b))
