@@ -1,4 +1,6 @@
 mod Coming
 mod EachPort
+mod Leaving
+mod Onward
 mod Retreating
 pub mod Rooms

@@ -1,8 +1,8 @@
-use Rattle.std.proofs.Common.{List, sym, ap, subst, arith}
-use Rattle.machine.specs.Player.{Frame, Player}
-use Rattle.machine.proofs.Open.{Open}
+use Rattle.std.proofs.Common.{ap, arith}
+use Rattle.machine.specs.Player.{Player}
 use Rattle.player.specs.Loaded.{held}
 use Rattle.player.specs.Seen.{seen}
+use Rattle.player.proofs.Leaving.{all_left}
 use Rattle.player.proofs.Retreating.{exited, exits_more}
 use Rattle.player.proofs.stage.Stage.fault_exit.Goals as goal
 
@@ -25,4 +25,4 @@ returns-clause-told g c =
 pub returns-clause-room : goal.returns-clause-room
 returns-clause-room g c =
     let s = held c.args.loaded.now in
-    subst (λ (fs : List Frame). ∥ Open s fs ∥₁) (sym (ap (λ (p : Player). p.frames) (c.finish.ensures s))) ∣ tt ∣₁
+    all_left s (ap (λ (p : Player). p.frames) (c.finish.ensures s))
