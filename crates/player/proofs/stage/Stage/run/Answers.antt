@@ -1,14 +1,16 @@
-use Rattle.std.proofs.Common.{◌≡◌, ℕ, ◌+◌, ◌<◌, ◌≤◌, pred, Bool, true, false, cond, ◌==◌, slice_index, List, ◌∷◌, map, get_or, length, sym, ap, ◌∙◌, subst, arith}
+use Rattle.std.proofs.Common.{◌≡◌, ℕ, ◌+◌, ◌<◌, ◌≤◌, pred, Bool, true, false, cond, ◌==◌, slice_index, slice_index_or, List, ◌∷◌, map, get_or, length, sym, ap, ◌∙◌, subst, arith}
 use native.Mathlib.Numerals.{sub-one}
 use Rattle.protocol.proofs.Tests.{equal_numbers, other_numbers}
 use Rattle.rules.specs.Script as rules
 use Rattle.machine.specs.declared.report.Outcome.TheVariants.{Ran, Cued, Faulted}
 use Rattle.machine.specs.Player.{Frame, Player, led, with_frames, with_register, with_station}
 use Rattle.machine.specs.Steps.{opened}
+use Rattle.machine.proofs.Open.{Always}
 use Rattle.script.specs.Commands.{said}
-use Rattle.script.specs.Pieces.{piece}
+use Rattle.script.specs.Pieces.{piece, pieces}
 use Rattle.player.specs.Frames.{frame_of, passed}
 use Rattle.player.specs.Loaded.{held}
+use Rattle.player.specs.Runs.{runs}
 use Rattle.player.specs.Seen.{seen}
 use Rattle.player.proofs.Running.{by_name, quiet, spoken}
 use Rattle.player.proofs.stage.Stage.run.Goals as goal
@@ -83,3 +85,27 @@ returns-in-Send g c =
     by_name p (frame_of c.args.top) (piece c.args.rest) (ap said c.in-Send.is)
     (spoken (λ i a. (Ran 1, with_frames (with_register (after p i a) r a) past)) c.port.result (slice_index c.args.top.ports c.in-Send.handle) l c.tell-entry.result _ _
     c.port.ensures c.tell-entry.ensures.heard c.tell-entry.ensures.entry c.told.ensures.sent (λ i. (c.told.ensures.outcome i, same i)))
+
+pub returns-in-Ask : goal.returns-in-Ask
+returns-in-Ask g c =
+    let p : Player = seen (held c.args.loaded.now) c.args.self.now in
+    let l : ℕ = c.in-Ask.letter in
+    let bs : List rules.Block = pieces c.in-Ask.blocks in
+    let past : List Frame = passed (piece c.args.rest) p.frames in
+    let told = c.tell-entry-in-Ask in
+    let after : Player → ℕ → ℕ → Player = λ q i a. with_station q i (led q i l a) in
+    let mid = told.ensures.kept ∙ ap (λ (fs : List Frame). after (with_frames p fs) c.port-in-Ask.result told.result.answer) c.pass-in-Ask.ensures in
+    let same = ap (with_frames (seen (held c.args.loaded.now) told.new.self)) c.push.ensures ∙ (λ i. with_frames (mid i) (opened (c.block.ensures i) c.args.top.ports (mid i).frames)) in
+    by_name p (frame_of c.args.top) (piece c.args.rest) (ap said c.in-Ask.is)
+    (spoken (λ i a. (Ran 1, with_frames (after p i a) (opened (slice_index_or bs a rules.no_block) c.args.top.ports past))) c.port-in-Ask.result (slice_index c.args.top.ports c.in-Ask.handle) l told.result _ _
+    c.port-in-Ask.ensures told.ensures.heard told.ensures.entry c.told-in-Ask.ensures.sent (λ i. (c.told-in-Ask.ensures.outcome i, same i)))
+
+pub push-requires : goal.push-requires
+push-requires g c =
+    let s : rules.Script = held c.args.loaded.now in
+    let p : Player = seen s c.args.self.now in
+    let f : Frame = frame_of c.args.top in
+    let rest : rules.Block = piece c.args.rest in
+    let few = subst (λ (k : rules.Command). Always (λ v. length v.1.frames ≤ 128) (runs p f rest k)) (ap said c.in-Ask.is) c.requires.few c.tell-entry-in-Ask.result.answer in
+    let room : length (passed rest p.frames) < 128 = few in
+    subst (λ (fs : List Frame). length fs < 128) (sym (ap (λ (q : Player). q.frames) c.tell-entry-in-Ask.ensures.kept ∙ c.pass-in-Ask.ensures)) room
