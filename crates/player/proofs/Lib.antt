@@ -4,3 +4,4 @@ mod Leaving
 mod Onward
 mod Retreating
 pub mod Rooms
+pub mod Running
