@@ -1,3 +1,4 @@
+mod Calling
 mod Coming
 mod EachPort
 mod Leaving
