@@ -1,2 +1,3 @@
 pub mod Rooms
 pub mod Running
+pub mod Stepping
