@@ -6,3 +6,4 @@ mod Onward
 mod Retreating
 pub mod Rooms
 pub mod Running
+pub mod Stepping

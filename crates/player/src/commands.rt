@@ -1,6 +1,9 @@
 // One step: the first command of the topmost open block.
-ghost use Rattle.std.specs.Prelude.{◌≡◌, ◌≤◌, length, option_to_list};
+ghost use Rattle.std.specs.Prelude.{◌≡◌, ◌≤◌, [], Some, None, length, option_to_list};
+ghost use Rattle.rules.specs.Script as rules;
+ghost use Rattle.machine.specs.declared.report.Outcome.TheVariants.{Ran};
 ghost use Rattle.machine.specs.Dialogue.{Plays};
+ghost use Rattle.machine.specs.Player.{with_frames};
 ghost use Rattle.machine.specs.Steps.{step};
 ghost use Rattle.machine.proofs.Open.{Always};
 ghost use Rattle.script.specs.Commands.{said};
@@ -27,9 +30,6 @@ pub struct Step {
 }
 
 impl Step {
-    ghost use Rattle.std.specs.Prelude.{Some, None};
-    ghost use Rattle.machine.specs.declared.report.Outcome.TheVariants.{Ran};
-
     fn silent(outcome: Outcome) -> Step
         ensures outcome { result.outcome ≡ outcome }
         ensures sent { result.sent ≡ None }
@@ -131,6 +131,17 @@ impl<'a> Stage<'a> {
         }
     }
 
+    // A block that does not begin with a command is the end; no passed script has one.
+    fn stuck(&mut self) -> Step
+        ensures outcome { result.outcome ≡ Ran 0 }
+        ensures sent { result.sent ≡ None }
+        ensures empty { (s : rules.Script) → seen s self.new ≡ with_frames (seen s self.old) [] }
+        ensures room { (s : rules.Script) → Room s self.new }
+    {
+        self.open.clear();
+        Step::silent(Outcome::Ran(0))
+    }
+
     // Does nothing where no block is open.
     pub(crate) fn step<R: Rig>(&mut self, loaded: &Loaded<'a>, rig: &mut R) -> Step
         requires room { Room (held loaded.now) self.old }
@@ -140,13 +151,12 @@ impl<'a> Stage<'a> {
         let Some(top) = self.open.top() else {
             return Step::silent(Outcome::Ran(0));
         };
-        match top.block.first() {
-            Some(Ok((command, rest))) => self.run(loaded, rig, top, command, rest),
-            // a passed script has no such block
-            _ => {
-                self.open.clear();
-                Step::silent(Outcome::Ran(0))
-            }
-        }
+        let Some(first) = top.block.first() else {
+            return self.stuck();
+        };
+        let Ok((command, rest)) = first else {
+            return self.stuck();
+        };
+        self.run(loaded, rig, top, command, rest)
     }
 }

@@ -1,8 +1,8 @@
-use Rattle.std.proofs.Common.{◌≡◌, ℕ, ◌+◌, ◌<◌, ◌≤◌, pred, Bool, true, false, cond, ◌==◌, slice_index, slice_index_or, List, ◌∷◌, map, get_or, length, sym, ap, ◌∙◌, subst, arith}
+use Rattle.std.proofs.Common.{◌≡◌, ℕ, ◌<◌, ◌≤◌, pred, Bool, true, false, cond, ◌==◌, slice_index, slice_index_or, List, length, sym, ap, ◌∙◌, subst}
 use native.Mathlib.Numerals.{sub-one}
 use Rattle.protocol.proofs.Tests.{equal_numbers, other_numbers}
 use Rattle.rules.specs.Script as rules
-use Rattle.machine.specs.declared.report.Outcome.TheVariants.{Ran, Cued, Faulted}
+use Rattle.machine.specs.declared.report.Outcome.TheVariants.{Ran}
 use Rattle.machine.specs.Player.{Frame, Player, led, with_frames, with_register, with_station}
 use Rattle.machine.specs.Steps.{opened}
 use Rattle.machine.proofs.Open.{Always}
@@ -63,12 +63,12 @@ returns-after-register-eq0 g c =
     let past : List Frame = passed (piece c.args.rest) p.frames in
     let into : List Frame = opened (piece c.in-Repeat.block) c.args.top.ports p.frames in
     let same : seen s c.if-register-eq0.self ≡ with_frames p (cond (slice_index p.registers r == 0) past into) =
-        elim c.if-register-eq0.branch [
-          | then-register-eq0 w ↦ chosen p r past into true (equal_numbers (sym c.register.ensures ∙ w.if-register-eq0.true))
-              (ap (seen s) w.self-is ∙ ap (with_frames p) w.pass-then-register-eq0.ensures)
-          | else-register-eq0 w ↦ chosen p r past into false (other_numbers (slice_index p.registers r) 0 (λ z. w.if-register-eq0.false (c.register.ensures ∙ z)))
-              (ap (seen s) w.self-is ∙ ap (with_frames p) w.push-else-register-eq0.ensures)
-        ] in
+    elim c.if-register-eq0.branch [
+      | then-register-eq0 w ↦ chosen p r past into true (equal_numbers (sym c.register.ensures ∙ w.if-register-eq0.true))
+          (ap (seen s) w.self-is ∙ ap (with_frames p) w.pass-then-register-eq0.ensures)
+      | else-register-eq0 w ↦ chosen p r past into false (other_numbers (slice_index p.registers r) 0 (λ z. w.if-register-eq0.false (c.register.ensures ∙ z)))
+          (ap (seen s) w.self-is ∙ ap (with_frames p) w.push-else-register-eq0.ensures)
+    ] in
     by_name p (frame_of c.args.top) (piece c.args.rest) (ap said c.in-Repeat.is) (quiet _ _ _ c.silent.ensures.sent (λ i. (c.silent.ensures.outcome i, same i)))
 
 pub returns-in-Send : goal.returns-in-Send
@@ -80,8 +80,8 @@ returns-in-Send g c =
     let past : List Frame = passed (piece c.args.rest) p.frames in
     let after : Player → ℕ → ℕ → Player = λ q i a. with_station q i (led q i l a) in
     let same =
-        c.set_register.ensures s
-        ∙ ap (λ (q : Player). with_register q r c.tell-entry.result.answer) (c.tell-entry.ensures.kept ∙ ap (λ (fs : List Frame). after (with_frames p fs) c.port.result c.tell-entry.result.answer) c.pass.ensures) in
+    c.set_register.ensures s
+    ∙ ap (λ (q : Player). with_register q r c.tell-entry.result.answer) (c.tell-entry.ensures.kept ∙ ap (λ (fs : List Frame). after (with_frames p fs) c.port.result c.tell-entry.result.answer) c.pass.ensures) in
     by_name p (frame_of c.args.top) (piece c.args.rest) (ap said c.in-Send.is)
     (spoken (λ i a. (Ran 1, with_frames (with_register (after p i a) r a) past)) c.port.result (slice_index c.args.top.ports c.in-Send.handle) l c.tell-entry.result _ _
     c.port.ensures c.tell-entry.ensures.heard c.tell-entry.ensures.entry c.told.ensures.sent (λ i. (c.told.ensures.outcome i, same i)))
