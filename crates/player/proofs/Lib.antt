@@ -1,2 +1,10 @@
-pub mod Performing
+mod Calling
+mod Coming
+mod EachPort
+mod Leaving
+mod Onward
+mod Performing
+mod Retreating
 pub mod Rooms
+pub mod Running
+pub mod Stepping

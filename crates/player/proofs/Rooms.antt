@@ -1,4 +1,4 @@
--- There is room for what a script may open: at its start, and after each step.
+-- There is room for what a script may open.
 use Rattle.std.proofs.Common.{◌<◌, ◌≤◌, List, [], ◌∷◌, length, arith}
 use Rattle.std.proofs.Math.Logic.{∥∥₁_elim}
 use native.Mathlib.Bridge.{le_prop}

@@ -1,9 +1,17 @@
 // One step: the first command of the topmost open block.
-ghost use Rattle.std.specs.Prelude.{◌≡◌, option_to_list};
+ghost use Rattle.std.specs.Prelude.{◌≡◌, ◌≤◌, [], Some, None, length, option_to_list};
+ghost use Rattle.rules.specs.Script as rules;
+ghost use Rattle.machine.specs.declared.report.Outcome.TheVariants.{Ran};
 ghost use Rattle.machine.specs.Dialogue.{Plays};
+ghost use Rattle.machine.specs.Player.{with_frames};
 ghost use Rattle.machine.specs.Steps.{step};
+ghost use Rattle.machine.proofs.Open.{Always};
+ghost use Rattle.script.specs.Commands.{said};
+ghost use Rattle.script.specs.Pieces.{piece};
+ghost use Rattle.player.specs.Frames.{frame_of};
 ghost use Rattle.player.specs.Loaded.{held};
 ghost use Rattle.player.specs.Room.{Room};
+ghost use Rattle.player.specs.Runs.{runs};
 ghost use Rattle.player.specs.Seen.{seen};
 
 use crate::loaded::Loaded;
@@ -21,15 +29,31 @@ pub struct Step {
     pub sent: Option<Entry>,
 }
 
-impl<'a> Stage<'a> {
-    // Without a letter.
-    fn ran() -> Step {
+impl Step {
+    fn silent(outcome: Outcome) -> Step
+        ensures outcome { result.outcome ≡ outcome }
+        ensures sent { result.sent ≡ None }
+    {
         Step {
-            outcome: Outcome::Ran(0),
+            outcome,
             sent: None,
         }
     }
 
+    // A SEND or an ASK.
+    fn told(entry: Entry) -> Step
+        ensures outcome { result.outcome ≡ Ran 1 }
+        ensures sent { result.sent ≡ Some entry }
+    {
+        Step {
+            outcome: Outcome::Ran(1),
+            sent: Some(entry),
+        }
+    }
+}
+
+impl<'a> Stage<'a> {
+    // The command with which the topmost block begins, and what is left of the block behind it.
     fn run<R: Rig>(
         &mut self,
         loaded: &Loaded<'a>,
@@ -37,7 +61,10 @@ impl<'a> Stage<'a> {
         top: Frame<'a>,
         command: Command<'a>,
         rest: Block<'a>,
-    ) -> Step {
+    ) -> Step
+        requires few { Always (λ v. length v.1.frames ≤ 128) (runs (seen (held loaded.now) self.old) (frame_of top) (piece rest) (said command)) }
+        ensures { Plays (runs (seen (held loaded.now) self.old) (frame_of top.entry) (piece rest.entry) (said command.entry)) (R.Rig.ports rig.old) (option_to_list result.sent) (R.Rig.ports rig.new) (result.outcome, seen (held loaded.now) self.new) }
+    {
         let ports = top.ports;
         match command {
             Command::Send {
@@ -48,10 +75,7 @@ impl<'a> Stage<'a> {
                 self.open.pass(rest);
                 let entry = self.tell(loaded, rig, top.port(handle), letter);
                 self.set_register(register, entry.answer);
-                Step {
-                    outcome: Outcome::Ran(1),
-                    sent: Some(entry),
-                }
+                Step::told(entry)
             }
             Command::Ask {
                 handle,
@@ -64,10 +88,7 @@ impl<'a> Stage<'a> {
                     block: blocks.block(entry.answer),
                     ports,
                 });
-                Step {
-                    outcome: Outcome::Ran(1),
-                    sent: Some(entry),
-                }
+                Step::told(entry)
             }
             // it stays below its block, whose end comes back to it
             Command::Repeat { register, block } => {
@@ -76,44 +97,49 @@ impl<'a> Stage<'a> {
                 } else {
                     self.open.push(Frame { block, ports });
                 }
-                Stage::ran()
+                Step::silent(Outcome::Ran(0))
             }
             Command::Run { part, bindings } => {
                 self.open.pass(rest);
                 self.open.push(Frame {
                     block: loaded.body(part),
-                    ports: bindings.map(|handle| top.bound(handle)),
+                    ports: top.handed(bindings),
                 });
-                Stage::ran()
+                Step::silent(Outcome::Ran(0))
             }
             Command::Set { register, value } => {
                 self.open.pass(rest);
                 self.set_register(register, value);
-                Stage::ran()
+                Step::silent(Outcome::Ran(0))
             }
             Command::Dec { register } => {
                 self.open.pass(rest);
                 self.set_register(register, self.register(register).saturating_sub(1));
-                Stage::ran()
+                Step::silent(Outcome::Ran(0))
             }
             Command::Cue { number } => {
                 self.open.pass(rest);
-                Step {
-                    outcome: Outcome::Cued(number),
-                    sent: None,
-                }
+                Step::silent(Outcome::Cued(number))
             }
             Command::Fail { code } => {
                 self.open.pass(rest);
-                Step {
-                    outcome: Outcome::Faulted {
-                        code,
-                        place: top.block.place,
-                    },
-                    sent: None,
-                }
+                Step::silent(Outcome::Faulted {
+                    code,
+                    place: top.block.place,
+                })
             }
         }
+    }
+
+    // A block that does not begin with a command is the end; no passed script has one.
+    fn stuck(&mut self) -> Step
+        ensures outcome { result.outcome ≡ Ran 0 }
+        ensures sent { result.sent ≡ None }
+        ensures empty { (s : rules.Script) → seen s self.new ≡ with_frames (seen s self.old) [] }
+        ensures room { (s : rules.Script) → Room s self.new }
+    {
+        self.open.clear();
+        Step::silent(Outcome::Ran(0))
     }
 
     // Does nothing where no block is open.
@@ -123,15 +149,14 @@ impl<'a> Stage<'a> {
         ensures room { Room (held loaded.now) self.new }
     {
         let Some(top) = self.open.top() else {
-            return Stage::ran();
+            return Step::silent(Outcome::Ran(0));
         };
-        match top.block.first() {
-            Some(Ok((command, rest))) => self.run(loaded, rig, top, command, rest),
-            // a passed script has no such block
-            _ => {
-                self.open.clear();
-                Stage::ran()
-            }
-        }
+        let Some(first) = top.block.first() else {
+            return self.stuck();
+        };
+        let Ok((command, rest)) = first else {
+            return self.stuck();
+        };
+        self.run(loaded, rig, top, command, rest)
     }
 }

@@ -2,6 +2,7 @@
 ghost use Rattle.std.specs.Prelude.{◌≡◌, ◌≤◌, length};
 ghost use Rattle.machine.specs.Exits.{fault_exit, withdraw};
 ghost use Rattle.player.specs.Loaded.{held};
+ghost use Rattle.player.specs.Room.{Room};
 ghost use Rattle.player.specs.Seen.{seen};
 ghost use Rattle.player.specs.Told.{Told};
 
@@ -47,6 +48,7 @@ impl<'a> Stage<'a> {
         requires { 120 ≤ length log.old }
         ensures told { Told (fault_exit (seen (held loaded.now) self.old)) (R.Rig.ports rig.old) log.old result (seen (held loaded.now) self.new) (R.Rig.ports rig.new) log.new }
         ensures few { result ≤ 120 }
+        ensures room { Room (held loaded.now) self.new }
     {
         let mut sent = 0;
         for port in 0..self.stations.len() as u8 {

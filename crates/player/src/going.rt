@@ -1,10 +1,10 @@
 // Going: step after step, until nothing is left, the steps are spent, or a command stops it.
-ghost use Rattle.std.specs.Prelude.{◌≡◌, ℕ, ◌+◌, ◌≤◌, length};
-ghost use Rattle.machine.specs.Going.{go_on};
+ghost use Rattle.std.specs.Prelude.{◌≡◌, ◌+◌, ◌<◌, ◌≤◌, ◌++◌, drop, length, option_to_list, take};
+ghost use Rattle.machine.specs.Calls.{written};
 ghost use Rattle.player.specs.Loaded.{held};
 ghost use Rattle.player.specs.Room.{Room};
 ghost use Rattle.player.specs.Seen.{seen};
-ghost use Rattle.player.specs.Told.{Told};
+ghost use Rattle.player.specs.Told.{Went};
 
 use crate::loaded::Loaded;
 use crate::stage::Stage;
@@ -23,7 +23,7 @@ impl<'a> Stage<'a> {
         requires few { n ≤ 1000 }
         requires log { n + 120 ≤ length log.old }
         requires room { Room (held loaded.now) self.old }
-        ensures told { (own : ℕ) × Told (go_on n 0 0 (seen (held loaded.now) self.old)) (R.Rig.ports rig.old) log.old result.letters (record { reason = result.reason; steps = result.steps; own = own }, seen (held loaded.now) self.new) (R.Rig.ports rig.new) log.new }
+        ensures went { Went n (seen (held loaded.now) self.old) (R.Rig.ports rig.old) log.old result (seen (held loaded.now) self.new) (R.Rig.ports rig.new) log.new }
         ensures room { Room (held loaded.now) self.new }
     {
         let mut steps: u32 = 0;
@@ -38,10 +38,7 @@ impl<'a> Stage<'a> {
                 return report(Reason::Spent, steps, letters);
             }
             let step = self.step(loaded, rig);
-            if let Some(entry) = step.sent {
-                log[letters] = entry;
-                letters += 1;
-            }
+            letters = note(log, letters, step.sent);
             steps += 1;
             match step.outcome {
                 Outcome::Ran(_) => {}
@@ -55,11 +52,25 @@ impl<'a> Stage<'a> {
     }
 }
 
+// Writes the letter of a step behind the others, and counts it.
+fn note(log: &mut [Entry], letters: usize, sent: Option<Entry>) -> usize
+    requires { letters < length log.old }
+    ensures count { result ≡ letters + length (option_to_list sent) }
+    ensures few { result ≤ letters + 1 }
+    ensures noted { log.new ≡ take letters log.old ++ written (option_to_list sent) (drop letters log.old) }
+{
+    match sent {
+        Some(entry) => {
+            log[letters] = entry;
+            letters + 1
+        }
+        None => letters,
+    }
+}
+
 fn report(reason: Reason, steps: u32, letters: usize) -> Report
     requires { letters ≤ 1120 }
-    ensures reason { result.reason ≡ reason }
-    ensures steps { result.steps ≡ steps }
-    ensures letters { result.letters ≡ letters }
+    ensures { result ≡ record { reason = reason; steps = steps; letters = letters } }
 {
     Report {
         reason,
