@@ -8,7 +8,7 @@ use Rattle.faults.specs.Results.{◌>>=◌, need}
 use Rattle.faults.proofs.Results.{follows, met}
 use Rattle.protocol.specs.Tables.{allowed, successors}
 use Rattle.rules.specs.Lists.{same}
-use Rattle.rules.specs.Script.{Block, Command, Read, broken, nothing, command, first, Scope, Keys, at, table_at, in_range, depth_fits, cut, send, ask, repeat, run, store, dec, cue, fail}
+use Rattle.rules.specs.Script.{Block, Command, Read, broken, nothing, command, first, Scope, Keys, at, table_at, in_range, depth_fits, send, ask, repeat, run, store, dec, cue, fail}
 use Rattle.rules.specs.Check.{Checks, branches, check_body, check_read, check_whole, command_keys, join, or_fault, undeclared_empty}
 use Rattle.rules.proofs.Fuel.{unrolls}
 use Rattle.rules.proofs.Reading.{no_first}
@@ -16,7 +16,7 @@ use Rattle.script.specs.declared.command.Command as code
 use Rattle.script.specs.Commands.{in_range_so, said}
 use Rattle.script.specs.declared.blocks.Blocks.{Blocks}
 use Rattle.script.specs.Ends.{all_spare}
-use Rattle.script.specs.Pieces.{pieces, front, past}
+use Rattle.script.specs.Pieces.{pieces}
 use Rattle.script.specs.Walk.{allowed_at, ask_keys, block_keys, branch_ends, command_after}
 use Rattle.script.proofs.Joining.{spare_where}
 use Rattle.script.proofs.Turns.{needed_first, unmet, stops as carried}

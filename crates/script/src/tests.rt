@@ -1,3 +1,5 @@
+use crate::block::Block;
+use crate::command::Command;
 use crate::script::Script;
 use book::Book;
 use std::alloc::{AllocError, Global};
@@ -90,5 +92,34 @@ fn a_refusal_changes_nothing(rt: HostRuntime) -> Result<(), Fail> {
     let good = main_with(heap, &[])?;
     let bad = main_with(heap, &[0x22])?;
     keeps_the_first(&rt, &BOOK, &good, &bad);
+    Ok(())
+}
+
+// The letter of the SEND with which a block begins, and how many bytes stand behind it.
+fn first_send(block: Block) -> Option<(u8, usize)> {
+    match block.first() {
+        Some(Ok((Command::Send { letter, .. }, rest))) => Some((letter, rest.bytes.len())),
+        _ => None,
+    }
+}
+
+fn reads_main<'a>(rt: &impl Abort, book: &'a [u8], bytes: &'a [u8]) {
+    let mut held = Book::new();
+    assert!(rt; held.check(book).is_ok());
+    let mut script = Script::new();
+    assert_eq!(rt; script.ports(), 0);
+    assert!(rt; script.check(&held, bytes).is_ok());
+    assert_eq!(rt; script.ports(), 1);
+    assert_eq!(rt; script.kind(0), 0);
+    assert_eq!(rt; first_send(script.main()), Some((0, 4)));
+    assert_eq!(rt; first_send(script.body(0)), Some((0, 4)));
+    assert_eq!(rt; first_send(script.body(1)), None);
+}
+
+#[test]
+fn main_is_read_back(rt: HostRuntime) -> Result<(), Fail> {
+    let heap = rt.alloc();
+    let bytes = main_with(heap, &[0x20, 0, 0, 0, 0x20, 0, 1, 0])?;
+    reads_main(&rt, &BOOK, &bytes);
     Ok(())
 }

@@ -1,4 +1,4 @@
-use Rattle.std.proofs.Common.{◌≡◌, sym, ap, ◌∙◌, rules, subst}
+use Rattle.std.proofs.Common.{sym}
 use Rattle.script.proofs.Held.{main_found}
 use Rattle.script.proofs.script.Script.main_part.Goals as goal
 
