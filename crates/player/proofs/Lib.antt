@@ -2,6 +2,7 @@ mod Calling
 mod Coming
 mod EachPort
 mod Leaving
+mod Lending
 mod Onward
 mod Performing
 mod Retreating

@@ -10,7 +10,7 @@ use Rattle.player.specs.declared.open_blocks.OpenBlocks.{OpenBlocks}
 abbrev pub frame_of : Frame → machine.Frame
 frame_of f = record { block = piece f.block; ports = f.ports }
 
-abbrev pub frames_of : OpenBlocks → List machine.Frame
+abbrev pub frames_of : OpenBlocks Frame → List machine.Frame
 frames_of o = reverse (map frame_of o.frames.items)
 
 -- the topmost goes on with the rest

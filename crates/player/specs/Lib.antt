@@ -1,5 +1,6 @@
 pub mod Frames
 pub mod Kept
+pub mod Lending
 pub mod Loaded
 pub mod Room
 pub mod Runs

@@ -1,8 +1,11 @@
 // The blocks of a script that are open.
-ghost use Rattle.std.specs.Prelude.{◌≡◌, ◌<◌, [], ◌∷◌, drop, length, option_map, slice_get, ◌==◌};
+ghost use Rattle.std.specs.Prelude.{◌≡◌, ◌-◌, ◌<◌, [], ◌∷◌, drop, length, option_map, slice_get, ◌==◌};
 ghost use Rattle.machine.specs.Steps.{unwound};
 ghost use Rattle.script.specs.Pieces.{piece};
+ghost use Rattle.std.specs.Borrow.{sem};
+ghost use Rattle.std.specs.List.{IsItemAtMut};
 ghost use Rattle.player.specs.Frames.{at_end, frame_of, frames_of, passed};
+ghost use Rattle.player.specs.Lending.{LendsTop};
 
 use arrayvec::ArrayVec;
 use script::Block;
@@ -30,14 +33,26 @@ impl Default for Frame<'_> {
     }
 }
 
-// The last one is the topmost. A plain table: what is so of the blocks is said where the player is.
+// The last one is the topmost. A plain table, of any records, so that one of them may be lent: what is so of the blocks is
+// said where the player is.
 #[derive(Drop)]
-pub struct OpenBlocks<'a> {
-    frames: ArrayVec<Frame<'a>, MOST_OPEN>,
+pub struct OpenBlocks<F> {
+    frames: ArrayVec<F, MOST_OPEN>,
 }
 
-impl<'a> OpenBlocks<'a> {
-    pub(crate) fn new() -> OpenBlocks<'a>
+impl<F> OpenBlocks<F> {
+    // The topmost, lent.
+    fn top_mut(&mut self) -> Option<&mut F>
+        ensures* lends { sem 𝓛 (LendsTop F.row self.entry result) }
+        ensures item { IsItemAtMut self.old.frames.items (length self.old.frames.items - 1) result }
+    {
+        let last = self.frames.len().checked_sub(1)?;
+        self.frames.get_mut(last)
+    }
+}
+
+impl<'a> OpenBlocks<Frame<'a>> {
+    pub(crate) fn new() -> OpenBlocks<Frame<'a>>
         ensures { frames_of result ≡ [] }
     {
         OpenBlocks {
@@ -61,7 +76,7 @@ impl<'a> OpenBlocks<'a> {
     pub(crate) fn pass(&mut self, rest: Block<'a>)
         ensures { frames_of self.new ≡ passed (piece rest.entry) (frames_of self.old) }
     {
-        if let [.., top] = self.frames.as_mut_slice() {
+        if let Some(top) = self.top_mut() {
             top.block = rest;
         }
     }

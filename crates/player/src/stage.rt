@@ -18,7 +18,7 @@ pub struct Stage<'a> {
     pub registers: [u8; REGISTERS],
     // by port
     pub stations: ArrayVec<u8, 8>,
-    pub open: OpenBlocks<'a>,
+    pub open: OpenBlocks<Frame<'a>>,
 }
 
 // So many ports that are away.
