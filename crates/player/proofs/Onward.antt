@@ -1,5 +1,5 @@
 -- A go that is on its way, and where it stops.
-use Rattle.std.proofs.Common.{◌≡◌, ℕ, zero, suc, ◌+◌, ◌-◌, ◌<◌, ◌≤◌, ◌≢◌, List, [], ◌∷◌, ◌++◌, length, take, drop, sym, refl, ap, ◌∙◌, subst, subst₂, true, false, true≢false, ◌==◌, arith}
+use Rattle.std.proofs.Common.{◌≡◌, ℕ, zero, suc, ◌+◌, ◌-◌, ◌≤◌, ◌≢◌, List, [], ◌∷◌, ◌++◌, length, take, drop, sym, refl, ap, ◌∙◌, subst, subst₂, true, false, true≢false, ◌==◌, arith}
 use borrow.Rule.Slice.PartMut.{mid_of, put_mid}
 use Rattle.protocol.specs.declared.edges.Entry.{Entry}
 use Rattle.protocol.proofs.Tests.{equal_numbers, same_number}
@@ -56,7 +56,7 @@ stops : (n : ℕ) (p₀ : Player) {g₀ : Ports} {log₀ : Log} (own : ℕ) (rea
 stops n p₀ {g₀} {log₀} own reason steps letters {q} {g} {log} r e b = subst (λ (x : Report). Went n p₀ g₀ log₀ x q g log) (sym e) (own, coming_done b)
 
 module _ {n : ℕ} {p₀ : Player} {g₀ : Ports} {log₀ : Log} {steps letters : ℕ} {p : Player} {g : Ports} {log : Log}
-  (o : Onward n p₀ g₀ log₀ steps letters p g log) {fs : List Frame} (left : fs ≡ unwound p.frames) where
+    (o : Onward n p₀ g₀ log₀ steps letters p g log) {fs : List Frame} (left : fs ≡ unwound p.frames) where
   abbrev q : Player
   q = with_frames p fs
 
@@ -80,7 +80,7 @@ module _ {n : ℕ} {p₀ : Player} {g₀ : Ports} {log₀ : Log} {steps letters 
 
     -- a step
     module _ (more : steps ≢ n) {es : List Entry} {x : Outcome} {p' : Player} {g' : Ports} (plays : Plays (step q) g es g' (x, p'))
-      {letters' : ℕ} (count : letters' ≡ letters + length es) {log' : Log} (noted : log' ≡ take letters log ++ written es (drop letters log)) where
+        {letters' : ℕ} (count : letters' ≡ letters + length es) {log' : Log} (noted : log' ≡ take letters log ++ written es (drop letters log)) where
       follows : Coming (go_on n 0 0 p₀) g₀ log₀ letters' (after_step (go_on (n - (steps + 1))) steps o.own (x, p')) g' log'
       follows =
           let m : n - steps ≡ suc (n - (steps + 1)) = omega (arith, o.within, more) in
