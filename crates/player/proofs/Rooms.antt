@@ -14,10 +14,6 @@ use Rattle.player.specs.Loaded.{held}
 pub held_so : (l : Loaded) → ScriptSo (held l)
 held_so l = passed_so (held l) (script_passed l.script)
 
--- at most 128 are open
-pub room_few : (l : Loaded) (fs : List Frame) → ∥ Open (held l) fs ∥₁ → length fs ≤ 128
-room_few l fs room = ∥∥₁_elim room le_prop (open_few (held l) fs (held_so l))
-
 -- a script with a handle has a main
 some_parts : (ps : List Part) → 0 < (main_of ps).handles → 0 < length ps
 some_parts [] lt = absurd (omega arith)
