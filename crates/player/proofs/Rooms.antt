@@ -1,13 +1,11 @@
 -- There is room for what a script may open.
-use Rattle.std.proofs.Common.{◌<◌, ◌≤◌, List, [], ◌∷◌, length, arith}
-use Rattle.std.proofs.Math.Logic.{∥∥₁_elim}
-use native.Mathlib.Bridge.{le_prop}
+use Rattle.std.proofs.Common.{◌<◌, List, [], ◌∷◌, length, arith}
 use Rattle.rules.specs.Script.{Part, main_of}
 use Rattle.rules.proofs.Scripts.{ScriptSo, passed_so}
 use Rattle.script.proofs.Held.{script_passed}
-use Rattle.machine.specs.Player.{Frame, begun, main}
+use Rattle.machine.specs.Player.{begun, main}
 use Rattle.machine.proofs.Beginning.{begun_open}
-use Rattle.machine.proofs.Open.{Open, open_few}
+use Rattle.machine.proofs.Open.{Open}
 use Rattle.player.specs.declared.loaded.Loaded.{Loaded}
 use Rattle.player.specs.Loaded.{held}
 
