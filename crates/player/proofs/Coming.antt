@@ -5,7 +5,7 @@ use borrow.Rule.Slice.PartMut.{mid_of, put_mid}
 use lib.Seq.{take-append_seam, drop-append_seam}
 use Rattle.protocol.specs.declared.edges.Entry.{Entry}
 use Rattle.device.specs.Ports.{Ports, RigHears}
-use Rattle.machine.specs.Dialogue.{Dialogue, Plays, ◌>>=◌, done, ended, entry_in, tells, told}
+use Rattle.machine.specs.Dialogue.{Dialogue, Plays, ◌>>=◌, done, ended, entry_in, told}
 use Rattle.machine.specs.Player.{Player, led, tell, with_station}
 use Rattle.machine.specs.Calls.{Log, written}
 use Rattle.machine.proofs.Dialogues.{plays_then}

@@ -1,5 +1,5 @@
 -- The ports of a rig in rising order, up to the first that fails a test.
-use Rattle.std.proofs.Common.{◌≡◌, ℕ, zero, suc, ◌+◌, ◌<◌, Bool, true, false, ◌&&◌, List, [], ◌∷◌, length, drop, Err, Result, sym, refl, ap, ◌∙◌, arith, ◌==◌}
+use Rattle.std.proofs.Common.{◌≡◌, ℕ, zero, suc, ◌+◌, ◌<◌, Bool, true, false, ◌&&◌, [], ◌∷◌, length, drop, Err, Result, sym, refl, ap, ◌∙◌, arith, ◌==◌}
 use Rattle.faults.specs.declared.fault.Fault.{Fault}
 use Rattle.faults.specs.declared.causes.StageCause.{StageCause}
 use Rattle.faults.specs.Numbers.{stage_fault}

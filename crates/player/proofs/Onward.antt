@@ -1,7 +1,8 @@
 -- A go that is on its way, and where it stops.
-use Rattle.std.proofs.Common.{◌≡◌, ℕ, zero, suc, ◌+◌, ◌-◌, ◌<◌, ◌≤◌, ◌≢◌, List, [], ◌∷◌, ◌++◌, length, take, drop, sym, refl, ap, ◌∙◌, subst, subst₂, arith}
+use Rattle.std.proofs.Common.{◌≡◌, ℕ, zero, suc, ◌+◌, ◌-◌, ◌≤◌, ◌≢◌, List, [], ◌∷◌, ◌++◌, length, take, drop, sym, refl, ap, ◌∙◌, subst, subst₂, true, false, true≢false, ◌==◌, arith}
 use borrow.Rule.Slice.PartMut.{mid_of, put_mid}
 use Rattle.protocol.specs.declared.edges.Entry.{Entry}
+use Rattle.protocol.proofs.Tests.{equal_numbers, same_number}
 use Rattle.device.specs.Ports.{Ports}
 use Rattle.machine.specs.declared.report.Outcome.{Outcome}
 use Rattle.machine.specs.declared.report.Outcome.TheVariants.{Ran, Cued, Faulted}
@@ -9,8 +10,8 @@ use Rattle.machine.specs.declared.report.Reason.{Reason}
 use Rattle.machine.specs.declared.report.Reason.TheVariants.{End, Spent, Cue, Failed}
 use Rattle.machine.specs.declared.report.Report.{Report}
 use Rattle.machine.specs.Dialogue.{Dialogue, Plays, ◌>>=◌}
-use Rattle.machine.specs.Player.{Frame, Player, finished}
-use Rattle.machine.specs.Steps.{step}
+use Rattle.machine.specs.Player.{Frame, Player, finished, with_frames}
+use Rattle.machine.specs.Steps.{step, unwound}
 use Rattle.machine.specs.Exits.{fault_exit}
 use Rattle.machine.specs.Going.{Stop, after_step, go_on, settled, stop, stop_failed, unless_over}
 use Rattle.machine.specs.Calls.{Log, written}
@@ -55,31 +56,37 @@ stops : (n : ℕ) (p₀ : Player) {g₀ : Ports} {log₀ : Log} (own : ℕ) (rea
 stops n p₀ {g₀} {log₀} own reason steps letters {q} {g} {log} r e b = subst (λ (x : Report). Went n p₀ g₀ log₀ x q g log) (sym e) (own, coming_done b)
 
 module _ {n : ℕ} {p₀ : Player} {g₀ : Ports} {log₀ : Log} {steps letters : ℕ} {p : Player} {g : Ports} {log : Log}
-  (o : Onward n p₀ g₀ log₀ steps letters p g log) (q : Player) (left : q ≡ settled p) where
-  rests : go_on (n - steps) steps o.own p ≡ onward (n - steps) steps o.own q
-  rests = goes_onward (n - steps) steps o.own p ∙ ap (onward (n - steps) steps o.own) (sym left)
+    (o : Onward n p₀ g₀ log₀ steps letters p g log) {fs : List Frame} (left : fs ≡ unwound p.frames) where
+  abbrev q : Player
+  q = with_frames p fs
 
-  pub ends : length q.frames ≡ 0 → {q' : Player} → q' ≡ finished q → (r : Report) → r ≡ record { reason = End; steps = steps; letters = letters } → Went n p₀ g₀ log₀ r q' g log
+  rests : go_on (n - steps) steps o.own p ≡ onward (n - steps) steps o.own q
+  rests = goes_onward (n - steps) steps o.own p ∙ ap (λ (v : List Frame). onward (n - steps) steps o.own (with_frames p v)) (sym left)
+
+  pub ends : (length fs == 0) ≡ true → {q' : Player} → q' ≡ finished q → (r : Report) → r ≡ record { reason = End; steps = steps; letters = letters } → Went n p₀ g₀ log₀ r q' g log
   ends none {q'} over r e =
       stops n p₀ o.own End steps letters r e
-      (coming_as (rests ∙ onward_ends (n - steps) steps o.own q none ∙ ap (stop End steps o.own) (sym over)) o.coming)
+      (coming_as (rests ∙ onward_ends (n - steps) steps o.own q (same_number (length fs) 0 none) ∙ ap (stop End steps o.own) (sym over)) o.coming)
 
-  module _ (some : length q.frames ≢ 0) where
+  module _ (some : (length fs == 0) ≡ false) where
+    not_over : (t : Dialogue (Stop × Player)) → unless_over steps o.own q fs t ≡ t
+    not_over t = on_at steps o.own q fs t (λ e. true≢false (sym (equal_numbers e) ∙ some))
+
     pub spends : steps ≡ n → (r : Report) → r ≡ record { reason = Spent; steps = steps; letters = letters } → Went n p₀ g₀ log₀ r q g log
     spends all r e =
         let none : n - steps ≡ 0 = omega (arith, all) in
         stops n p₀ o.own Spent steps letters r e
-        (coming_as (rests ∙ ap (λ m. onward m steps o.own q) none ∙ on_at steps o.own q q.frames (stop Spent steps o.own q) some) o.coming)
+        (coming_as (rests ∙ ap (λ m. onward m steps o.own q) none ∙ not_over (stop Spent steps o.own q)) o.coming)
 
     -- a step
     module _ (more : steps ≢ n) {es : List Entry} {x : Outcome} {p' : Player} {g' : Ports} (plays : Plays (step q) g es g' (x, p'))
-      {letters' : ℕ} (count : letters' ≡ letters + length es) {log' : Log} (noted : log' ≡ take letters log ++ written es (drop letters log)) where
+        {letters' : ℕ} (count : letters' ≡ letters + length es) {log' : Log} (noted : log' ≡ take letters log ++ written es (drop letters log)) where
       follows : Coming (go_on n 0 0 p₀) g₀ log₀ letters' (after_step (go_on (n - (steps + 1))) steps o.own (x, p')) g' log'
       follows =
           let m : n - steps ≡ suc (n - (steps + 1)) = omega (arith, o.within, more) in
           let next : Outcome × Player → Dialogue (Stop × Player) = λ got. after_step (go_on (n - (steps + 1))) steps o.own got in
           subst₂ (λ (j : ℕ) (v : Log). Coming (go_on n 0 0 p₀) g₀ log₀ j (next (x, p')) g' v) (sym count) (sym noted)
-          (coming_then next (coming_as (rests ∙ ap (λ j. onward j steps o.own q) m ∙ on_at steps o.own q q.frames (step q >>= next) some) o.coming) (es, plays, refl, refl))
+          (coming_then next (coming_as (rests ∙ ap (λ j. onward j steps o.own q) m ∙ not_over (step q >>= next)) o.coming) (es, plays, refl, refl))
 
       pub runs : (k : ℕ) → x ≡ Ran k → letters' ≤ letters + 1 → Onward n p₀ g₀ log₀ (steps + 1) letters' p' g' log'
       runs k e few = record {

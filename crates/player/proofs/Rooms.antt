@@ -1,22 +1,16 @@
 -- There is room for what a script may open.
-use Rattle.std.proofs.Common.{◌<◌, ◌≤◌, List, [], ◌∷◌, length, arith}
-use Rattle.std.proofs.Math.Logic.{∥∥₁_elim}
-use native.Mathlib.Bridge.{le_prop}
+use Rattle.std.proofs.Common.{◌<◌, List, [], ◌∷◌, length, arith}
 use Rattle.rules.specs.Script.{Part, main_of}
 use Rattle.rules.proofs.Scripts.{ScriptSo, passed_so}
 use Rattle.script.proofs.Held.{script_passed}
-use Rattle.machine.specs.Player.{Frame, begun, main}
+use Rattle.machine.specs.Player.{begun, main}
 use Rattle.machine.proofs.Beginning.{begun_open}
-use Rattle.machine.proofs.Open.{Open, open_few}
+use Rattle.machine.proofs.Open.{Open}
 use Rattle.player.specs.declared.loaded.Loaded.{Loaded}
 use Rattle.player.specs.Loaded.{held}
 
 pub held_so : (l : Loaded) → ScriptSo (held l)
 held_so l = passed_so (held l) (script_passed l.script)
-
--- at most 128 are open
-pub room_few : (l : Loaded) (fs : List Frame) → ∥ Open (held l) fs ∥₁ → length fs ≤ 128
-room_few l fs room = ∥∥₁_elim room le_prop (open_few (held l) fs (held_so l))
 
 -- a script with a handle has a main
 some_parts : (ps : List Part) → 0 < (main_of ps).handles → 0 < length ps

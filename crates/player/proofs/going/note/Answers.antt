@@ -1,4 +1,4 @@
-use Rattle.std.proofs.Common.{length, take, drop, ◌++◌, option_to_list, sym, ap, ◌∙◌}
+use Rattle.std.proofs.Common.{take, drop, ◌++◌, option_to_list, sym, ap, ◌∙◌}
 use Rattle.machine.specs.Calls.{written}
 use Rattle.player.proofs.Coming.{written_at}
 use Rattle.player.proofs.going.note.Goals as goal

@@ -1,4 +1,4 @@
-use Rattle.std.proofs.Common.{ℕ, refl, rules, tests}
+use Rattle.std.proofs.Common.{refl, rules, tests}
 use Rattle.std.proofs.lemmas.Iterator.{YieldsList-from_range}
 use Rattle.std.proofs.lemmas.Iterator.Search.{all_from_yields_List}
 use Rattle.device.specs.Ports.{edge_at}

@@ -25,8 +25,7 @@ returns g c =
     let p : Player = view c.args.self.now in
     let s : Script = held c.of-loaded.result in
     let ports : Ports = g.R.Rig.ports c.args.rig.now in
-    let count : (main s).handles ≡ length ports = sym c.ports.ensures ∙ c.if-ports.false ∙ c.count-ports.ensures in
-    (
+    let count : (main s).handles ≡ length ports = sym c.ports.ensures ∙ c.if-ports.false ∙ c.count-ports.ensures in (
       ap (λ (x : Script). begin p x ports) (sym c.of-loaded.ensures) ∙ begins p s ports c.if-not-self.false count (sym c.in_ok-fits.ensures) ∙ ap Ok (sym c.begun-stage.ensures.begun),
       c.count-ports.ensures,
     )

@@ -10,5 +10,5 @@ invariant-loop-port g l =
     record {
       exiting : Exiting (seen s l.initial.self) (g.R.Rig.ports l.initial.rig) l.initial.log l.sent l.port l.port-end (seen s l.self) (g.R.Rig.ports l.rig) l.log;
       few : l.sent ≤ 15 * l.port;
-      eight : l.port-end ≤ 8
+      eight : l.port-end ≤ 8;
     }

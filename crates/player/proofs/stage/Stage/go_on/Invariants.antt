@@ -10,7 +10,7 @@ invariant-loop-self g l =
     let s = held l.loaded in
     record {
       onward : Onward l.n (seen s l.initial.self) (g.R.Rig.ports l.initial.rig) l.initial.log l.steps l.letters (seen s l.self) (g.R.Rig.ports l.rig) l.log;
-      room : Room s l.self
+      room : Room s l.self;
     }
 
 abbrev pub decreases-loop-self : goal.decreases-loop-self

@@ -3,7 +3,6 @@ use Rattle.machine.specs.Exits.{withdraw}
 use Rattle.player.specs.Loaded.{held}
 use Rattle.player.specs.Seen.{seen}
 use Rattle.player.proofs.Coming.{Coming}
-use Rattle.player.proofs.Retreating.{withdrawn}
 use Rattle.player.proofs.stage.Stage.withdraw.Given as goal
 
 abbrev pub invariant-loop-sent : goal.invariant-loop-sent
