@@ -12,9 +12,9 @@ use Rattle.machine.specs.Calls.{Log}
 use Rattle.machine.specs.Runs.{Scene, first_scene, joins, goes, strikes, started, called, calls_of}
 use Rattle.machine.specs.Player.{Player, new_player}
 use Rattle.machine.proofs.Kept.{keeps_protocols}
-use Rattle.player.specs.declared.perform.Answer.{Answer}
-use Rattle.player.specs.declared.perform.Call.{Call}
-use Rattle.player.specs.declared.perform.Answer.TheVariants.{Went, Struck}
+use Rattle.player.specs.declared.performance.Answer.{Answer}
+use Rattle.player.specs.declared.performance.Call.{Call}
+use Rattle.player.specs.declared.performance.Answer.TheVariants.{Went, Struck}
 use Rattle.player.specs.Performing.{Answers, Ran, Request, RunOf, answer_of, letters_in, request, request_of}
 
 pub go_joins : (n own : ℕ) (log log' : Log) (r : Result Report Fault) → joins (goes n log r own log') ≡ take (letters_in (Went r)) log'

@@ -8,11 +8,11 @@ use Rattle.script.specs.Held.{script_held}
 use Rattle.machine.specs.Runs as machine
 use Rattle.machine.specs.Runs.{Scene, first_scene, begins, goes, looks, strikes, Does, joins, Run, calls_of}
 use Rattle.machine.specs.Promise.{AllAway, Orderly}
-use Rattle.player.specs.declared.perform.Call.{Call}
-use Rattle.player.specs.declared.perform.Call.TheVariants.{Begin, Go, Look, Strike}
-use Rattle.player.specs.declared.perform.Answer.{Answer}
-use Rattle.player.specs.declared.perform.Answer.TheVariants.{Begun, Went, Looked, Struck}
-use Rattle.player.specs.declared.perform.Performance.{Performance}
+use Rattle.player.specs.declared.performance.Call.{Call}
+use Rattle.player.specs.declared.performance.Call.TheVariants.{Begin, Go, Look, Strike}
+use Rattle.player.specs.declared.performance.Answer.{Answer}
+use Rattle.player.specs.declared.performance.Answer.TheVariants.{Begun, Went, Looked, Struck}
+use Rattle.player.specs.declared.performance.Performance.{Performance}
 
 -- what is asked of a player
 pub data Request : Type 0 where

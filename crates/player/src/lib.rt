@@ -7,9 +7,12 @@ mod going;
 mod kept;
 mod loaded;
 mod open_blocks;
-mod perform;
+mod performance;
 mod player;
 mod stage;
 mod telling;
 #[cfg(test)]
 mod tests;
+
+pub use performance::{Answer, Call, Performance, perform};
+pub use player::Player;

@@ -1,5 +1,5 @@
 // Whole shows, on rigs of one, two and eight ports, bare and under layers.
-use crate::perform::{Answer, Call, Performance, perform};
+use crate::performance::{Answer, Call, Performance, perform};
 use book::Book;
 use device::{Before, LetterMap, Patch, Projector, Rig, Row, Single, Trail};
 use machine::Reason;

@@ -32,12 +32,6 @@ impl<'a> Loaded<'a> {
         }
     }
 
-    pub(crate) fn ports(&self) -> u8
-        ensures { result ≡ (main (held self.now)).handles }
-    {
-        self.script.ports()
-    }
-
     pub(crate) fn main(&self) -> Block<'a>
         ensures { piece result ≡ (main (held self.now)).body }
     {

@@ -3,6 +3,7 @@ ghost use Rattle.std.specs.Prelude.{◌≡◌, ℕ};
 ghost use Rattle.script.specs.Held.{script_held};
 ghost use Rattle.machine.specs.Calls.{Begins, Goes, Looks, Strikes};
 ghost use Rattle.machine.specs.Player.{new_player};
+ghost use Rattle.machine.specs.Promise.{RunsKeepProtocols};
 ghost use Rattle.player.specs.View.{view};
 
 use super::Player;
@@ -21,9 +22,10 @@ const MOST_STEPS: u32 = 1000;
 const MOST_LETTERS: usize = 120;
 
 impl<'a> Player<'a> {
-    // Over, without a port.
-    pub(crate) fn new() -> Player<'a>
-        ensures { view result ≡ new_player }
+    // Over, without a port. Whatever calls follow, and whatever the devices answer, the protocols of the ports are kept.
+    pub fn new() -> Player<'a>
+        ensures new { view result ≡ new_player }
+        ensures promise { RunsKeepProtocols }
     {
         Player {
             loaded: Loaded::new(),
@@ -32,17 +34,17 @@ impl<'a> Player<'a> {
     }
 
     // At the start of the script's main, or refused.
-    pub(crate) fn begin<R: Rig>(&mut self, script: &Script<'a>, rig: &R) -> Result<u8, Fault>
+    pub fn begin<R: Rig>(&mut self, script: &Script<'a>, rig: &R) -> Result<u8, Fault>
         ensures { Begins (view self.old) (script_held script.now) (R.Rig.ports rig.now) result (view self.new) }
     {
         if !self.stage.over {
             return Err(StageCause::NotOver.at(NOWHERE));
         }
         let ports = rig.count();
-        let loaded = Loaded::of(script);
-        if loaded.ports() != ports {
+        if script.ports() != ports {
             return Err(StageCause::OtherCount.at(NOWHERE));
         }
+        let loaded = Loaded::of(script);
         loaded.fits(rig)?;
         let stage = Stage::begun(&loaded, ports);
         *self = Player { loaded, stage };
@@ -50,7 +52,7 @@ impl<'a> Player<'a> {
     }
 
     // At most n steps; the log has its letters from the first entry on.
-    pub(crate) fn go<R: Rig>(
+    pub fn go<R: Rig>(
         &mut self,
         n: u32,
         rig: &mut R,
@@ -72,7 +74,7 @@ impl<'a> Player<'a> {
     }
 
     // The station that is kept for a port, and whether the player is over.
-    pub(crate) fn look(&self, port: u8) -> Result<(u8, bool), Fault>
+    pub fn look(&self, port: u8) -> Result<(u8, bool), Fault>
         ensures { Looks (view self.now) port result (view self.now) }
     {
         if port as usize >= self.stage.stations.len() {
@@ -82,7 +84,7 @@ impl<'a> Player<'a> {
     }
 
     // A fault exit on call; answers the count of letters.
-    pub(crate) fn strike<R: Rig>(&mut self, rig: &mut R, log: &mut [Entry]) -> Result<u32, Fault>
+    pub fn strike<R: Rig>(&mut self, rig: &mut R, log: &mut [Entry]) -> Result<u32, Fault>
         ensures { Strikes (view self.old) (R.Rig.ports rig.old) log.old result (view self.new) (R.Rig.ports rig.new) log.new }
     {
         if self.stage.over {

@@ -3,10 +3,10 @@ use Rattle.std.proofs.lemmas.List.{take_all}
 use Rattle.player.specs.Performing.{RunOf, request}
 use Rattle.player.specs.View.{scene}
 use Rattle.player.proofs.Performing.{run_starts, run_goes_on, run_stops, run_kept}
-use Rattle.player.proofs.perform.perform.Goals as goal
+use Rattle.player.proofs.performance.perform.Goals as goal
 
 pub loop-call-init : goal.loop-call-init
-loop-call-init g c = run_starts (g.R.Rig.ports c.args.rig.now) (vec_items c.new.result) (vec_items c.new-2.result) _ c.new.ensures.items c.new-2.ensures.items c.new-player.ensures
+loop-call-init g c = run_starts (g.R.Rig.ports c.args.rig.now) (vec_items c.new.result) (vec_items c.new-2.result) _ c.new.ensures.items c.new-2.ensures.items c.new-player.ensures.new
 
 pub returns-in-Err : goal.returns-in-Err
 returns-in-Err g c =
