@@ -123,8 +123,13 @@ fn a_fault_leads_home(rt: HostRuntime) -> Result<(), Fail> {
             Call::Go(10),
         ],
     )?;
-    let [_, Answer::Went(Ok(failed)), _, Answer::Went(Ok(spent)), Answer::Went(Ok(ended))] =
-        played.answers.as_slice()
+    let [
+        _,
+        Answer::Went(Ok(failed)),
+        _,
+        Answer::Went(Ok(spent)),
+        Answer::Went(Ok(ended)),
+    ] = played.answers.as_slice()
     else {
         return Err(Fail::new("a call is refused"));
     };
@@ -140,7 +145,11 @@ fn a_fault_leads_home(rt: HostRuntime) -> Result<(), Fail> {
 // Two ports of different make, both held, are led home in rising order.
 #[test]
 fn a_strike_goes_port_by_port(rt: HostRuntime) -> Result<(), Fail> {
-    let bytes = main_with(rt.alloc(), 2, &[&[0x20, 1, 0, 0], &READY, &QUERY, &[0x20, 1, 1, 0]])?;
+    let bytes = main_with(
+        rt.alloc(),
+        2,
+        &[&[0x20, 1, 0, 0], &READY, &QUERY, &[0x20, 1, 1, 0]],
+    )?;
     let script = checked(&BOOK, &bytes)?;
     let mut rig = Before::new(
         Trail::new(Projector::new(&[])),
@@ -167,8 +176,13 @@ fn a_strike_goes_port_by_port(rt: HostRuntime) -> Result<(), Fail> {
         sent(1, 1, 0),
     ];
     assert_eq!(rt; played.log.as_slice(), expected.as_slice());
-    let [.., Answer::Struck(Ok(3)), Answer::Looked(Ok((0, true))), Answer::Looked(Err(no_port)), Answer::Went(Err(over))] =
-        played.answers.as_slice()
+    let [
+        ..,
+        Answer::Struck(Ok(3)),
+        Answer::Looked(Ok((0, true))),
+        Answer::Looked(Err(no_port)),
+        Answer::Went(Err(over)),
+    ] = played.answers.as_slice()
     else {
         return Err(Fail::new("other answers"));
     };

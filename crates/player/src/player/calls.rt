@@ -52,12 +52,7 @@ impl<'a> Player<'a> {
     }
 
     // At most n steps; the log has its letters from the first entry on.
-    pub fn go<R: Rig>(
-        &mut self,
-        n: u32,
-        rig: &mut R,
-        log: &mut [Entry],
-    ) -> Result<Report, Fault>
+    pub fn go<R: Rig>(&mut self, n: u32, rig: &mut R, log: &mut [Entry]) -> Result<Report, Fault>
         ensures { (own : ℕ) × Goes (view self.old) n (R.Rig.ports rig.old) log.old result own (view self.new) (R.Rig.ports rig.new) log.new }
     {
         if self.stage.over {
