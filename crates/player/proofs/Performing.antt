@@ -9,7 +9,7 @@ use Rattle.device.specs.Meaning.{Lawful}
 use Rattle.device.specs.Ports.{Ports}
 use Rattle.machine.specs.declared.report.Report.{Report}
 use Rattle.machine.specs.Calls.{Log}
-use Rattle.machine.specs.Runs.{Scene, first_scene, joins, goes, strikes, started, called, calls_of}
+use Rattle.machine.specs.Runs.{Scene, joins, goes, strikes, started, called, calls_of}
 use Rattle.machine.specs.Player.{Player, new_player}
 use Rattle.machine.proofs.Kept.{keeps_protocols}
 use Rattle.player.specs.declared.performance.Answer.{Answer}

@@ -1,5 +1,5 @@
 -- Calls made one after the other, and what is returned of them.
-use Rattle.std.specs.Prelude.{◌≡◌, ℕ, Bool, List, [], ◌∷◌, ◌++◌, map, length, take, vec_items, Ok, Err, Result}
+use Rattle.std.specs.Prelude.{◌≡◌, ℕ, List, [], ◌∷◌, ◌++◌, map, length, take, vec_items, Ok, Err, Result}
 use Rattle.std.specs.declared.alloc.AllocError.{AllocError}
 use Rattle.protocol.specs.declared.edges.Entry.{Entry}
 use Rattle.device.specs.Ports.{Ports}

@@ -2,7 +2,8 @@
 use crate::performance::{Answer, Call, Performance, perform};
 use book::Book;
 use device::{Before, LetterMap, Patch, Projector, Rig, Row, Single, Trail};
-use machine::Reason;
+use faults::{Layer, NOWHERE, StageCause};
+use machine::{Reason, Report};
 use protocol::Entry;
 use script::Script;
 use std::alloc::{AllocError, Global};
@@ -15,16 +16,21 @@ const BOOK: [u8; 68] = [
     3, 4, 5, 3,
 ];
 
-// Granted, and led to the lamp.
-const READY: [u8; 8] = [0x20, 0, 0, 0, 0x20, 0, 2, 0];
-
-// After it the lamp is queried, each answer is led back by its own branch, and the projector is returned.
-const QUERY: [u8; 23] = [
-    0x21, 0, 3, 4, 0, 4, 0, 0, 0, 0, 0, 0x20, 0, 6, 0, 0x20, 0, 6, 0, 0x20, 0, 1, 0,
+// Granted and led to the lamp, which is queried; each answer is led back by its own branch, and the projector is returned.
+const LAMP: [u8; 31] = [
+    0x20, 0, 0, 0, 0x20, 0, 2, 0, 0x21, 0, 3, 4, 0, 4, 0, 0, 0, 0, 0, 0x20, 0, 6, 0, 0x20, 0, 6, 0,
+    0x20, 0, 1, 0,
 ];
 
-// After it the script fails with 7.
-const FAIL: [u8; 10] = [0x28, 7, 0x20, 0, 6, 0, 0x20, 0, 1, 0];
+// Granted and led to the lamp, where the script fails with 7.
+const FAIL: [u8; 18] = [
+    0x20, 0, 0, 0, 0x20, 0, 2, 0, 0x28, 7, 0x20, 0, 6, 0, 0x20, 0, 1, 0,
+];
+
+// The second port is granted, then the first, which is led to the lamp and back; both are returned.
+const PAIR: [u8; 24] = [
+    0x20, 1, 0, 0, 0x20, 0, 0, 0, 0x20, 0, 2, 0, 0x20, 0, 6, 0, 0x20, 0, 1, 0, 0x20, 1, 1, 0,
+];
 
 // Register 0 counts down from 2.
 const COUNTDOWN: [u8; 9] = [0x25, 0, 2, 0x23, 0, 2, 0, 0x26, 0];
@@ -33,18 +39,15 @@ const COUNTDOWN: [u8; 9] = [0x25, 0, 2, 0x23, 0, 2, 0, 0x26, 0];
 const SAME: [u8; 16] = [0, 1, 2, 3, 4, 5, 6, 7, 8, 9, 10, 11, 12, 13, 14, 15];
 
 // Main, with so many projectors that are away at both ends.
-fn main_with(heap: Global, ports: u8, body: &[&[u8]]) -> Result<Vec<u8>, AllocError> {
+fn main_with(heap: Global, ports: u8, body: &[u8]) -> Result<Vec<u8>, AllocError> {
     let mut bytes = [0x10, ports].to_vec(heap)?;
     for i in 0..8 {
         let byte = if i < ports { 0 } else { 0xff };
         bytes.extend_from_slice(&[byte, byte, byte])?;
     }
-    let len: usize = body.iter().map(|part| part.len()).sum();
-    bytes.push((len % 256) as u8)?;
-    bytes.push((len / 256) as u8)?;
-    for part in body {
-        bytes.extend_from_slice(part)?;
-    }
+    bytes.push((body.len() % 256) as u8)?;
+    bytes.push((body.len() / 256 % 256) as u8)?;
+    bytes.extend_from_slice(body)?;
     Ok(bytes)
 }
 
@@ -80,12 +83,40 @@ fn show<R: Rig>(rt: &HostRuntime, rig: &mut R, calls: &[Call]) -> Result<Perform
     Ok(show)
 }
 
+// The calls that begin a script and then go so many steps.
+fn begin_and_go<'a>(
+    heap: Global,
+    script: &'a Script<'a>,
+    steps: &[u32],
+) -> Result<Vec<Call<'a>>, AllocError> {
+    let mut calls = Vec::new(heap);
+    calls.push(Call::Begin(script))?;
+    for n in steps {
+        calls.push(Call::Go(*n))?;
+    }
+    Ok(calls)
+}
+
+// The calls that begin a script, go so many steps, strike, and then look at the ports 0 and 2 and would go on.
+fn strike_after<'a>(
+    heap: Global,
+    script: &'a Script<'a>,
+    steps: u32,
+) -> Result<Vec<Call<'a>>, AllocError> {
+    let mut calls = begin_and_go(heap, script, &[steps])?;
+    calls.push(Call::Strike)?;
+    calls.push(Call::Look(0))?;
+    calls.push(Call::Look(2))?;
+    calls.push(Call::Go(1))?;
+    Ok(calls)
+}
+
 // Every answer to the lamp query on one port, bare and under layers.
 #[test]
 fn every_branch_comes_home(rt: HostRuntime) -> Result<(), Fail> {
-    let bytes = main_with(rt.alloc(), 1, &[&READY, &QUERY])?;
+    let bytes = main_with(rt.alloc(), 1, &LAMP)?;
     let script = checked(&BOOK, &bytes)?;
-    let calls = [Call::Begin(&script), Call::Go(10)];
+    let calls = begin_and_go(rt.alloc(), &script, &[10])?;
     for (reply, steps) in [(0, 5), (1, 5), (2, 4)] {
         let replies = [reply];
         let mut bare = Single::new(Projector::new(&replies));
@@ -104,70 +135,50 @@ fn every_branch_comes_home(rt: HostRuntime) -> Result<(), Fail> {
     Ok(())
 }
 
-// A FAIL while the projector is held leads it home; the next show goes on to its end, in two goes.
+// A FAIL while the projector is held leads it home.
 #[test]
 fn a_fault_leads_home(rt: HostRuntime) -> Result<(), Fail> {
-    let failing = main_with(rt.alloc(), 1, &[&READY, &FAIL])?;
-    let failing = checked(&BOOK, &failing)?;
-    let counting = main_with(rt.alloc(), 1, &[&COUNTDOWN])?;
-    let counting = checked(&BOOK, &counting)?;
+    let bytes = main_with(rt.alloc(), 1, &FAIL)?;
+    let script = checked(&BOOK, &bytes)?;
+    let calls = begin_and_go(rt.alloc(), &script, &[10])?;
     let mut rig = Single::new(Projector::new(&[]));
-    let played = show(
-        &rt,
-        &mut rig,
-        &[
-            Call::Begin(&failing),
-            Call::Go(10),
-            Call::Begin(&counting),
-            Call::Go(5),
-            Call::Go(10),
-        ],
-    )?;
-    let [
-        _,
-        Answer::Went(Ok(failed)),
-        _,
-        Answer::Went(Ok(spent)),
-        Answer::Went(Ok(ended)),
-    ] = played.answers.as_slice()
-    else {
-        return Err(Fail::new("a call is refused"));
-    };
-    assert_eq!(rt; failed.reason, Reason::Failed { code: 7, place: 36 });
-    assert_eq!(rt; (failed.steps, failed.letters), (3, 4));
-    assert_eq!(rt; (spent.reason, spent.steps), (Reason::Spent, 5));
-    assert_eq!(rt; (ended.reason, ended.steps), (Reason::End, 1));
+    let played = show(&rt, &mut rig, &calls)?;
+    assert_eq!(rt;
+        last_go(&played),
+        Some((Reason::Failed { code: 7, place: 36 }, 3, 4))
+    );
     let letters = [sent(0, 0, 1), sent(0, 2, 2), sent(0, 6, 1), sent(0, 1, 0)];
     assert_eq!(rt; played.log.as_slice(), letters.as_slice());
+    Ok(())
+}
+
+// A countdown is done in ten steps, or in five and one.
+#[test]
+fn a_budget_is_spent(rt: HostRuntime) -> Result<(), Fail> {
+    let bytes = main_with(rt.alloc(), 1, &COUNTDOWN)?;
+    let script = checked(&BOOK, &bytes)?;
+    let mut rig = Single::new(Projector::new(&[]));
+    let at_once = show(&rt, &mut rig, &begin_and_go(rt.alloc(), &script, &[10])?)?;
+    assert_eq!(rt; last_go(&at_once), Some((Reason::End, 6, 0)));
+    let spent = show(&rt, &mut rig, &begin_and_go(rt.alloc(), &script, &[5])?)?;
+    assert_eq!(rt; last_go(&spent), Some((Reason::Spent, 5, 0)));
+    let ended = show(&rt, &mut rig, &begin_and_go(rt.alloc(), &script, &[5, 5])?)?;
+    assert_eq!(rt; last_go(&ended), Some((Reason::End, 1, 0)));
     Ok(())
 }
 
 // Two ports of different make, both held, are led home in rising order.
 #[test]
 fn a_strike_goes_port_by_port(rt: HostRuntime) -> Result<(), Fail> {
-    let bytes = main_with(
-        rt.alloc(),
-        2,
-        &[&[0x20, 1, 0, 0], &READY, &QUERY, &[0x20, 1, 1, 0]],
-    )?;
+    let bytes = main_with(rt.alloc(), 2, &PAIR)?;
     let script = checked(&BOOK, &bytes)?;
     let mut rig = Before::new(
         Trail::new(Projector::new(&[])),
         Single::new(Projector::new(&[])),
     );
-    let played = show(
-        &rt,
-        &mut rig,
-        &[
-            Call::Begin(&script),
-            Call::Go(3),
-            Call::Strike,
-            Call::Look(0),
-            Call::Look(2),
-            Call::Go(1),
-        ],
-    )?;
-    let expected = [
+    let calls = strike_after(rt.alloc(), &script, 3)?;
+    let played = show(&rt, &mut rig, &calls)?;
+    let letters = [
         sent(1, 0, 1),
         sent(0, 0, 1),
         sent(0, 2, 2),
@@ -175,58 +186,56 @@ fn a_strike_goes_port_by_port(rt: HostRuntime) -> Result<(), Fail> {
         sent(0, 1, 0),
         sent(1, 1, 0),
     ];
-    assert_eq!(rt; played.log.as_slice(), expected.as_slice());
-    let [
-        ..,
+    assert_eq!(rt; played.log.as_slice(), letters.as_slice());
+    let spent = Report {
+        reason: Reason::Spent,
+        steps: 3,
+        letters: 3,
+    };
+    let answers = [
+        Answer::Begun(Ok(2)),
+        Answer::Went(Ok(spent)),
         Answer::Struck(Ok(3)),
         Answer::Looked(Ok((0, true))),
-        Answer::Looked(Err(no_port)),
-        Answer::Went(Err(over)),
-    ] = played.answers.as_slice()
-    else {
-        return Err(Fail::new("other answers"));
-    };
-    assert_eq!(rt; (no_port.number(), no_port.place()), (31, 2));
-    assert_eq!(rt; over.number(), 27);
+        Answer::Looked(Err(StageCause::NoSuchPort.at(2))),
+        Answer::Went(Err(StageCause::Over.at(NOWHERE))),
+    ];
+    assert_eq!(rt; played.answers.as_slice(), answers.as_slice());
     Ok(())
+}
+
+fn row(heap: Global, ports: u8) -> Result<Row<Projector<'static>>, Fail> {
+    let mut devices = Vec::new(heap);
+    for _ in 0..ports {
+        devices.push(Projector::new(&[]))?;
+    }
+    Row::new(devices).map_err(|_| Fail::new("no devices"))
 }
 
 // Eight ports of one make; a rig of seven is refused.
 #[test]
 fn eight_ports(rt: HostRuntime) -> Result<(), Fail> {
-    let mut body = Vec::new(rt.alloc());
+    let heap = rt.alloc();
+    let mut body = Vec::new(heap);
     for letter in [0, 2, 6, 1] {
         for port in 0..8 {
             body.extend_from_slice(&[0x20, port, letter, 0])?;
         }
     }
-    let bytes = main_with(rt.alloc(), 8, &[body.as_slice()])?;
+    let bytes = main_with(heap, 8, &body)?;
     let script = checked(&BOOK, &bytes)?;
-    for (ports, answer) in [(8, Ok(8)), (7, Err(24))] {
-        let mut devices = Vec::new(rt.alloc());
-        for _ in 0..ports {
-            devices.push(Projector::new(&[]))?;
-        }
-        let Ok(mut rig) = Row::new(devices) else {
-            return Err(Fail::new("no devices"));
-        };
-        let played = show(
-            &rt,
-            &mut rig,
-            &[Call::Begin(&script), Call::Go(20), Call::Strike],
-        )?;
-        match (answer, played.answers.as_slice()) {
-            (Ok(count), [Answer::Begun(Ok(begun)), _, Answer::Struck(Ok(letters))]) => {
-                assert_eq!(rt; *begun, count);
-                assert_eq!(rt; *letters, 12);
-                assert_eq!(rt; played.log.len(), 32);
-            }
-            (Err(number), [Answer::Begun(Err(fault)), ..]) => {
-                assert_eq!(rt; fault.number(), number);
-                assert_eq!(rt; played.log.len(), 0);
-            }
-            _ => return Err(Fail::new("other answers")),
-        }
-    }
+    let calls = strike_after(heap, &script, 20)?;
+    let played = show(&rt, &mut row(heap, 8)?, &calls)?;
+    assert_eq!(rt;
+        played.answers.as_slice().get(2).copied(),
+        Some(Answer::Struck(Ok(12)))
+    );
+    assert_eq!(rt; played.log.len(), 32);
+    let refused = show(&rt, &mut row(heap, 7)?, &calls)?;
+    assert_eq!(rt;
+        refused.answers.as_slice().first().copied(),
+        Some(Answer::Begun(Err(StageCause::OtherCount.at(NOWHERE))))
+    );
+    assert_eq!(rt; refused.log.len(), 0);
     Ok(())
 }

@@ -1,4 +1,4 @@
-use Rattle.std.proofs.Common.{map, take, vec_items, subst, arith}
+use Rattle.std.proofs.Common.{map, vec_items, subst, arith}
 use Rattle.std.proofs.lemmas.List.{take_all}
 use Rattle.player.specs.Performing.{RunOf, request}
 use Rattle.player.specs.View.{scene}

@@ -5,7 +5,7 @@ use Rattle.rules.specs.Script.{Script}
 use Rattle.script.proofs.Turns.{passed}
 use Rattle.script.specs.Held.{script_held}
 use Rattle.machine.specs.Player.{Player, begun, main}
-use Rattle.machine.specs.Calls.{Begins, begin}
+use Rattle.machine.specs.Calls.{Begins}
 use Rattle.player.specs.Kept.{may_begin}
 use Rattle.player.specs.View.{view}
 use Rattle.player.proofs.Calling.{begins, refused}
