@@ -1,6 +1,6 @@
 pub mod Answers
+pub mod Held
 pub mod Hex
 pub mod Lines
-pub mod Rows
 pub mod Transcripts
 pub mod Views

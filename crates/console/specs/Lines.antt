@@ -1,12 +1,15 @@
 -- What a line of input asks for, by its bytes.
-use Rattle.std.specs.Prelude.{ℕ, Bool, cond, not, ◌||◌, List, [], ◌∷◌, take, drop, Some, None, codes, filter, Option, ◌==◌}
-use Rattle.std.specs.List.{prefix_len}
+use Rattle.std.specs.Prelude.{ℕ, Bool, cond, not, ◌||◌, List, [], ◌∷◌, map, take, drop, Some, None, codes, filter, Option, ◌==◌}
+use Rattle.std.specs.List.{prefix_len, slice_split}
 use Rattle.std.specs.Str.{bytes_eq}
+use Rattle.console.specs.declared.line.Verb.{Verb}
+use Rattle.console.specs.declared.line.Verb.TheVariants.{Book, Script}
 use Rattle.console.specs.Hex.{hex_bytes}
 
 pub data Parsed : Type 0 where
   blank : Parsed
   book : List ℕ → Parsed
+  script : List ℕ → Parsed
   unknown : Parsed
 
 -- a space, a tab or a carriage return
@@ -28,20 +31,32 @@ after_word bs = drop (prefix_len in_word bs) bs
 abbrev pub no_blanks : List ℕ → List ℕ
 no_blanks bs = filter in_word bs
 
-abbrev pub book_of : Option (List ℕ) → Parsed
-book_of None = unknown
-book_of (Some bs) = book bs
+abbrev pub known : (List ℕ → Parsed) → Option (List ℕ) → Parsed
+known command None = unknown
+known command (Some bs) = command bs
 
-abbrev pub book_line : List ℕ → Parsed
-book_line digits = book_of (hex_bytes (no_blanks digits))
+-- a command and the bytes that follow it
+abbrev pub bytes_line : (List ℕ → Parsed) → List ℕ → Parsed
+bytes_line command digits = known command (hex_bytes (no_blanks digits))
 
-abbrev pub by_word : List ℕ → List ℕ → Parsed
-by_word word rest = cond (bytes_eq word (codes "book")) (book_line rest) unknown
+abbrev pub verb_of : List ℕ → Option Verb
+verb_of word =
+    cond (bytes_eq word (codes "book")) (Some Book)
+    (cond (bytes_eq word (codes "script")) (Some Script) None)
+
+abbrev pub command_of : Option Verb → List ℕ → Parsed
+command_of (Some Book) rest = bytes_line book rest
+command_of (Some Script) rest = bytes_line script rest
+command_of None rest = unknown
 
 -- 35 is `#`, which begins a remark
 abbrev pub text_line : List ℕ → Parsed
 text_line [] = blank
-text_line (b ∷ bs) = cond (b == 35) blank (by_word (first_word (b ∷ bs)) (after_word (b ∷ bs)))
+text_line (b ∷ bs) = cond (b == 35) blank (command_of (verb_of (first_word (b ∷ bs))) (after_word (b ∷ bs)))
 
 abbrev pub line_of : List ℕ → Parsed
 line_of bs = text_line (after_blanks bs)
+
+-- the lines between newlines, which are 10; after the last newline there is a blank one more, which nothing answers
+abbrev pub lines_of : List ℕ → List Parsed
+lines_of bs = map line_of (slice_split (λ b. b == 10) bs)

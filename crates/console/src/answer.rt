@@ -1,10 +1,7 @@
 // What the console answers, as it prints it.
-ghost use Rattle.std.specs.Prelude.{◌≡◌, is_ok, if◌then◌else◌, Some};
-ghost use Rattle.book.specs.Held.{bytes_of};
-ghost use Rattle.book.specs.Reading.{read_book};
-ghost use Rattle.console.specs.Answers.{answer_text, count_kinds};
+ghost use Rattle.std.specs.Prelude.{Some};
+ghost use Rattle.console.specs.Answers.{answer_text};
 
-use book::Book;
 use faults::Fault;
 use std::fmt;
 
@@ -12,6 +9,8 @@ use std::fmt;
 pub enum Answer {
     // how many kinds the book has, or why it is refused
     Book(Result<u8, Fault>),
+    // how many parts the script has, or why it is refused
+    Script(Result<u8, Fault>),
     // the number of the line, from 1
     NotUnderstood(u64),
 }
@@ -28,16 +27,13 @@ impl fmt::Display for Answer {
                 let place = fault.place();
                 write!(f, "book refused {number} at {place}")
             }
+            Answer::Script(Ok(parts)) => write!(f, "script passed, {parts} parts"),
+            Answer::Script(Err(fault)) => {
+                let number = fault.number();
+                let place = fault.place();
+                write!(f, "script refused {number} at {place}")
+            }
             Answer::NotUnderstood(line) => write!(f, "line {line}: not understood"),
         }
     }
-}
-
-// How many kinds the book has, which is held from then on, or why it is refused.
-pub fn answer_book<'a>(book: &mut Book<'a>, bytes: &'a [u8]) -> Result<u8, Fault>
-    ensures answer { result ≡ count_kinds (read_book bytes.now) }
-    ensures held { bytes_of book.new ≡ (if is_ok (read_book bytes.now) then bytes.now else bytes_of book.old) }
-{
-    book.check(bytes)?;
-    Ok(book.kinds())
 }

@@ -2,6 +2,7 @@
 #![tactic(auto)]
 
 mod answer;
+mod desk;
 mod digits;
 mod line;
 mod session;
@@ -9,6 +10,7 @@ mod session;
 mod tests;
 mod words;
 
-pub use answer::{Answer, answer_book};
+pub use answer::Answer;
+pub use desk::Desk;
 pub use line::{Command, Line, NotUnderstood, parse_line};
-pub use session::{answer_line, transcript};
+pub use session::transcript;

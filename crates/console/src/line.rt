@@ -1,6 +1,6 @@
 // What a line of input asks for.
 ghost use Rattle.std.specs.Prelude.{◌≡◌, IfOk};
-ghost use Rattle.console.specs.Lines.{after_word, by_word, first_word, line_of};
+ghost use Rattle.console.specs.Lines.{after_word, command_of, first_word, line_of, verb_of};
 ghost use Rattle.console.specs.Views.{asked, view};
 
 use crate::digits::hex_bytes;
@@ -13,6 +13,7 @@ const REMARK: u8 = b'#';
 #[derive(Drop)]
 pub enum Command {
     Book(Vec<u8>),
+    Script(Vec<u8>),
 }
 
 // A line that is no command: it is answered, and the console goes on.
@@ -31,16 +32,38 @@ pub fn parse_line(heap: Global, line: &[u8]) -> Result<Line, AllocError>
     }
 }
 
-// A command goes by its first word.
+// A command by its first word.
+#[derive(Clone, Copy)]
+enum Verb {
+    Book,
+    Script,
+}
+
+fn verb_of(word: &[u8]) -> Option<Verb>
+    ensures { result ≡ verb_of word.now }
+{
+    if word == b"book".as_slice() {
+        Some(Verb::Book)
+    } else if word == b"script".as_slice() {
+        Some(Verb::Script)
+    } else {
+        None
+    }
+}
+
 fn parse_command(heap: Global, text: &[u8]) -> Result<Result<Command, NotUnderstood>, AllocError>
-    ensures { IfOk result (λ r. asked r ≡ by_word (first_word text.now) (after_word text.now)) }
+    ensures { IfOk result (λ r. asked r ≡ command_of (verb_of (first_word text.now)) (after_word text.now)) }
 {
     let (word, rest) = split_word(text);
-    match word {
-        b"book" => {
+    match verb_of(word) {
+        Some(Verb::Book) => {
             let bytes = hex_bytes(heap, rest)?;
             Ok(bytes.map(Command::Book).ok_or(NotUnderstood))
         }
-        _ => Ok(Err(NotUnderstood)),
+        Some(Verb::Script) => {
+            let bytes = hex_bytes(heap, rest)?;
+            Ok(bytes.map(Command::Script).ok_or(NotUnderstood))
+        }
+        None => Ok(Err(NotUnderstood)),
     }
 }

@@ -1,7 +1,7 @@
-use crate::answer::{Answer, answer_book};
+use crate::answer::Answer;
+use crate::desk::Desk;
 use crate::line::{Command, parse_line};
 use crate::session::transcript;
-use book::Book;
 use std::test::Fail;
 
 #[test]
@@ -28,7 +28,7 @@ fn digits_may_be_split(rt: HostRuntime) -> Result<(), Fail> {
 #[test]
 fn a_long_book_is_refused(rt: HostRuntime) -> Result<(), Fail> {
     let bytes = [0; 8193];
-    let answer = Answer::Book(answer_book(&mut Book::new(), &bytes));
+    let answer = Answer::Book(Desk::new().check_book(&bytes));
     let text = answer.to_string(rt.alloc())?;
     assert_eq!(rt; text.as_str(), "book refused 1 at 65535");
     Ok(())
