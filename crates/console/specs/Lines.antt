@@ -1,15 +1,19 @@
 -- What a line of input asks for, by its bytes.
-use Rattle.std.specs.Prelude.{ℕ, Bool, cond, not, ◌||◌, List, [], ◌∷◌, map, take, drop, Some, None, codes, filter, Option, ◌==◌}
+use Rattle.std.specs.Prelude.{ℕ, Bool, cond, not, ◌||◌, List, [], ◌∷◌, map, length, take, drop, Some, None, codes, filter, Option, ◌==◌, nat_le, nat_lt}
 use Rattle.std.specs.List.{prefix_len, slice_split}
 use Rattle.std.specs.Str.{bytes_eq}
 use Rattle.console.specs.declared.line.Verb.{Verb}
-use Rattle.console.specs.declared.line.Verb.TheVariants.{Book, Script}
+use Rattle.console.specs.declared.line.Verb.TheVariants.{Book, Script, Rig, Ports}
+use Rattle.console.specs.Devices.{all_some, device_of}
 use Rattle.console.specs.Hex.{hex_bytes}
+use Rattle.console.specs.Plans.{Planned}
 
 pub data Parsed : Type 0 where
   blank : Parsed
   book : List ℕ → Parsed
   script : List ℕ → Parsed
+  rig : List Planned → Parsed
+  ports : Parsed
   unknown : Parsed
 
 -- a space, a tab or a carriage return
@@ -31,6 +35,10 @@ after_word bs = drop (prefix_len in_word bs) bs
 abbrev pub no_blanks : List ℕ → List ℕ
 no_blanks bs = filter in_word bs
 
+-- what stands between blanks
+abbrev pub words : List ℕ → List (List ℕ)
+words bs = filter (λ w. nat_lt 0 (length w)) (slice_split is_blank bs)
+
 abbrev pub known : (List ℕ → Parsed) → Option (List ℕ) → Parsed
 known command None = unknown
 known command (Some bs) = command bs
@@ -39,14 +47,32 @@ known command (Some bs) = command bs
 abbrev pub bytes_line : (List ℕ → Parsed) → List ℕ → Parsed
 bytes_line command digits = known command (hex_bytes (no_blanks digits))
 
+-- at most eight devices
+abbrev pub rig_of : Option (List Planned) → Option Parsed
+rig_of None = None
+rig_of (Some ps) = cond (nat_le (length ps) 8) (Some (rig ps)) None
+
+abbrev pub rig_line : Option Parsed → Parsed
+rig_line None = unknown
+rig_line (Some line) = line
+
+-- nothing follows
+abbrev pub ports_line : List ℕ → Parsed
+ports_line [] = ports
+ports_line (b ∷ bs) = unknown
+
 abbrev pub verb_of : List ℕ → Option Verb
 verb_of word =
     cond (bytes_eq word (codes "book")) (Some Book)
-    (cond (bytes_eq word (codes "script")) (Some Script) None)
+    (cond (bytes_eq word (codes "script")) (Some Script)
+    (cond (bytes_eq word (codes "rig")) (Some Rig)
+    (cond (bytes_eq word (codes "ports")) (Some Ports) None)))
 
 abbrev pub command_of : Option Verb → List ℕ → Parsed
 command_of (Some Book) rest = bytes_line book rest
 command_of (Some Script) rest = bytes_line script rest
+command_of (Some Rig) rest = rig_line (rig_of (all_some (map device_of (words rest))))
+command_of (Some Ports) rest = ports_line (after_blanks rest)
 command_of None rest = unknown
 
 -- 35 is `#`, which begins a remark

@@ -3,8 +3,14 @@
 
 mod answer;
 mod desk;
+mod devices;
 mod digits;
+mod layer;
+mod layered;
 mod line;
+mod nest;
+mod plan;
+mod ports;
 mod session;
 #[cfg(test)]
 mod tests;
@@ -12,5 +18,9 @@ mod words;
 
 pub use answer::Answer;
 pub use desk::Desk;
+pub use layer::Layer;
+pub use layered::Layered;
 pub use line::{Command, Line, NotUnderstood, parse_line};
+pub use plan::Plan;
+pub use ports::PortLine;
 pub use session::transcript;

@@ -36,7 +36,7 @@ fn answer_lines(heap: Global, lines: &[Line]) -> Result<String, AllocError>
     let mut text = String::new(heap);
     // zipped with numbers, a proof would not know that the lines are at an end where the loop is
     for (i, line) in lines.iter().enumerate() {
-        let answer = desk.answer(i as u64 + 1, line);
+        let answer = desk.answer(heap, i as u64 + 1, line)?;
         write_answer(&mut text, answer)?;
     }
     Ok(text)
@@ -46,7 +46,7 @@ fn write_answer(text: &mut String, answer: Option<Answer>) -> Result<(), AllocEr
     ensures { OnOk result (string_bytes text.new ≡ string_bytes text.old ++ printed answer) }
 {
     match answer {
-        Some(answer) => text.writeln(answer).map_err(|_| AllocError),
+        Some(answer) => text.write(answer).map_err(|_| AllocError),
         None => Ok(()),
     }
 }

@@ -52,10 +52,10 @@ fn check_files(rt: &HostRuntime, book: &str, script: Option<&str>) -> Result<(),
     };
     let mut desk = Desk::new();
     let mut passed = desk.check_book(&bytes);
-    println!(rt; "{}", Answer::Book(passed))?;
+    print!(rt; "{}", Answer::Book(passed))?;
     if let Some(bytes) = &script {
         let parts = desk.check_script(bytes);
-        println!(rt; "{}", Answer::Script(parts))?;
+        print!(rt; "{}", Answer::Script(parts))?;
         passed = passed.and(parts);
     }
     passed?;
