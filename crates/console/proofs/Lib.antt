@@ -1,2 +1,4 @@
 pub mod Pairs
-pub mod Rows
+pub mod Mounting
+pub mod Somes
+pub mod Turns

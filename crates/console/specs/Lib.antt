@@ -1,6 +1,10 @@
 pub mod Answers
+pub mod Devices
+pub mod Held
 pub mod Hex
+pub mod Layers
 pub mod Lines
-pub mod Rows
+pub mod Plans
+pub mod Ports
 pub mod Transcripts
 pub mod Views

@@ -1,12 +1,19 @@
 -- What a line in memory holds.
-use Rattle.std.specs.Prelude.{vec_items, Some, None, Ok, Err, Option, Result}
+use Rattle.std.specs.Prelude.{map, vec_items, Some, None, Ok, Err, Option, Result}
 use Rattle.console.specs.declared.line.Command.{Command}
-use Rattle.console.specs.declared.line.Command.TheVariants.{Book}
+use Rattle.console.specs.declared.line.Command.TheVariants.{Book, Script, Rig, Ports}
 use Rattle.console.specs.declared.line.NotUnderstood.{NotUnderstood}
-use Rattle.console.specs.Lines.{Parsed, blank, book, unknown}
+use Rattle.console.specs.Lines.{Parsed, blank, book, script, rig, ports, unknown}
+use Rattle.console.specs.Plans.{planned}
+
+abbrev pub commanded : Command → Parsed
+commanded (Book v) = book (vec_items v)
+commanded (Script v) = script (vec_items v)
+commanded (Rig v) = rig (map planned (vec_items v))
+commanded Ports = ports
 
 abbrev pub asked : Result Command NotUnderstood → Parsed
-asked (Ok (Book v)) = book (vec_items v)
+asked (Ok command) = commanded command
 asked (Err e) = unknown
 
 abbrev pub view : Option (Result Command NotUnderstood) → Parsed

@@ -1,43 +1,64 @@
 // What the console answers, as it prints it.
-ghost use Rattle.std.specs.Prelude.{◌≡◌, is_ok, if◌then◌else◌, Some};
-ghost use Rattle.book.specs.Held.{bytes_of};
-ghost use Rattle.book.specs.Reading.{read_book};
-ghost use Rattle.console.specs.Answers.{answer_text, count_kinds};
+ghost use Rattle.std.specs.Prelude.{Some};
+ghost use Rattle.std.specs.Fmt.{DisplaysOnOk};
+ghost use Rattle.std.specs.List.{flat_map};
+ghost use Rattle.console.specs.Answers.{answer_text, port_text, refused};
 
-use book::Book;
+use crate::ports::PortLine;
+use arrayvec::ArrayVec;
 use faults::Fault;
 use std::fmt;
 
-#[derive(Clone, Copy, Debug, PartialEq, Eq)]
+#[derive(Drop)]
 pub enum Answer {
     // how many kinds the book has, or why it is refused
     Book(Result<u8, Fault>),
+    // how many parts the script has, or why it is refused
+    Script(Result<u8, Fault>),
+    // how many ports the rig has, or why it is refused
+    Rig(Result<u8, Fault>),
+    // what they show
+    Ports(ArrayVec<PortLine, 8>),
     // the number of the line, from 1
     NotUnderstood(u64),
 }
 
-// Other programs read these texts.
+// Other programs read these texts. Each is whole lines, with their newlines.
 impl fmt::Display for Answer {
     ghost output = { λ a. Some (answer_text a) };
 
     fn fmt<W: fmt::Write>(&self, f: &mut fmt::Formatter<W>) -> fmt::Result {
         match self {
-            Answer::Book(Ok(kinds)) => write!(f, "book passed, {kinds} kinds"),
-            Answer::Book(Err(fault)) => {
-                let number = fault.number();
-                let place = fault.place();
-                write!(f, "book refused {number} at {place}")
-            }
-            Answer::NotUnderstood(line) => write!(f, "line {line}: not understood"),
+            Answer::Book(Ok(kinds)) => writeln!(f, "book passed, {kinds} kinds"),
+            Answer::Book(Err(fault)) => write_refused("book", fault, f),
+            Answer::Script(Ok(parts)) => writeln!(f, "script passed, {parts} parts"),
+            Answer::Script(Err(fault)) => write_refused("script", fault, f),
+            Answer::Rig(Ok(ports)) => writeln!(f, "rig {ports} ports"),
+            Answer::Rig(Err(fault)) => write_refused("rig", fault, f),
+            Answer::Ports(lines) => write_ports(lines.as_slice(), f),
+            Answer::NotUnderstood(line) => writeln!(f, "line {line}: not understood"),
         }
     }
 }
 
-// How many kinds the book has, which is held from then on, or why it is refused.
-pub fn answer_book<'a>(book: &mut Book<'a>, bytes: &'a [u8]) -> Result<u8, Fault>
-    ensures answer { result ≡ count_kinds (read_book bytes.now) }
-    ensures held { bytes_of book.new ≡ (if is_ok (read_book bytes.now) then bytes.now else bytes_of book.old) }
+fn write_refused<W: fmt::Write>(what: &str, fault: &Fault, f: &mut fmt::Formatter<W>) -> fmt::Result
+    ensures { DisplaysOnOk W.write_str_gives f.old result (Some (refused what.now fault.now)) f.new }
 {
-    book.check(bytes)?;
-    Ok(book.kinds())
+    let number = fault.number();
+    let place = fault.place();
+    writeln!(f, "{what} refused {number} at {place}")
+}
+
+fn write_ports<W: fmt::Write>(lines: &[PortLine], f: &mut fmt::Formatter<W>) -> fmt::Result
+    ensures { DisplaysOnOk W.write_str_gives f.old result (Some (flat_map port_text lines.now)) f.new }
+{
+    for line in lines {
+        let PortLine {
+            port,
+            station,
+            heard,
+        } = *line;
+        writeln!(f, "port {port} station {station}, heard {heard}")?;
+    }
+    Ok(())
 }

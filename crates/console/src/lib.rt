@@ -2,13 +2,25 @@
 #![tactic(auto)]
 
 mod answer;
+mod desk;
+mod devices;
 mod digits;
+mod layer;
+mod layered;
 mod line;
+mod nest;
+mod plan;
+mod ports;
 mod session;
 #[cfg(test)]
 mod tests;
 mod words;
 
-pub use answer::{Answer, answer_book};
+pub use answer::Answer;
+pub use desk::Desk;
+pub use layer::Layer;
+pub use layered::Layered;
 pub use line::{Command, Line, NotUnderstood, parse_line};
-pub use session::{answer_line, transcript};
+pub use plan::Plan;
+pub use ports::PortLine;
+pub use session::transcript;

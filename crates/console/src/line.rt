@@ -1,10 +1,15 @@
 // What a line of input asks for.
-ghost use Rattle.std.specs.Prelude.{◌≡◌, IfOk};
-ghost use Rattle.console.specs.Lines.{after_word, by_word, first_word, line_of};
-ghost use Rattle.console.specs.Views.{asked, view};
+ghost use Rattle.std.specs.Prelude.{◌≡◌, IfOk, map};
+ghost use Rattle.std.specs.Option.{option_map};
+ghost use Rattle.console.specs.Lines.{after_word, command_of, first_word, line_of, rig_of, verb_of};
+ghost use Rattle.console.specs.Plans.{planned};
+ghost use Rattle.console.specs.Views.{asked, commanded, view};
 
-use crate::digits::hex_bytes;
+use crate::devices::parse_devices;
+use crate::digits::spaced_bytes;
+use crate::plan::Plan;
 use crate::words::{skip_blanks, split_word};
+use device::PORTS;
 use std::alloc::{AllocError, Global};
 
 // The first byte of a line that asks for nothing.
@@ -13,6 +18,9 @@ const REMARK: u8 = b'#';
 #[derive(Drop)]
 pub enum Command {
     Book(Vec<u8>),
+    Script(Vec<u8>),
+    Rig(Vec<Plan>),
+    Ports,
 }
 
 // A line that is no command: it is answered, and the console goes on.
@@ -31,16 +39,61 @@ pub fn parse_line(heap: Global, line: &[u8]) -> Result<Line, AllocError>
     }
 }
 
-// A command goes by its first word.
+// A command by its first word.
+#[derive(Clone, Copy)]
+enum Verb {
+    Book,
+    Script,
+    Rig,
+    Ports,
+}
+
+fn verb_of(word: &[u8]) -> Option<Verb>
+    ensures { result ≡ verb_of word.now }
+{
+    if word == b"book".as_slice() {
+        Some(Verb::Book)
+    } else if word == b"script".as_slice() {
+        Some(Verb::Script)
+    } else if word == b"rig".as_slice() {
+        Some(Verb::Rig)
+    } else if word == b"ports".as_slice() {
+        Some(Verb::Ports)
+    } else {
+        None
+    }
+}
+
 fn parse_command(heap: Global, text: &[u8]) -> Result<Result<Command, NotUnderstood>, AllocError>
-    ensures { IfOk result (λ r. asked r ≡ by_word (first_word text.now) (after_word text.now)) }
+    ensures { IfOk result (λ r. asked r ≡ command_of (verb_of (first_word text.now)) (after_word text.now)) }
 {
     let (word, rest) = split_word(text);
-    match word {
-        b"book" => {
-            let bytes = hex_bytes(heap, rest)?;
+    match verb_of(word) {
+        Some(Verb::Book) => {
+            let bytes = spaced_bytes(heap, rest)?;
             Ok(bytes.map(Command::Book).ok_or(NotUnderstood))
         }
-        _ => Ok(Err(NotUnderstood)),
+        Some(Verb::Script) => {
+            let bytes = spaced_bytes(heap, rest)?;
+            Ok(bytes.map(Command::Script).ok_or(NotUnderstood))
+        }
+        Some(Verb::Rig) => {
+            let plans = parse_devices(heap, rest)?;
+            Ok(rig_of(plans).ok_or(NotUnderstood))
+        }
+        Some(Verb::Ports) if skip_blanks(rest).is_empty() => Ok(Ok(Command::Ports)),
+        Some(Verb::Ports) | None => Ok(Err(NotUnderstood)),
+    }
+}
+
+// A rig is of at most eight devices.
+fn rig_of(plans: Option<Vec<Plan>>) -> Option<Command>
+    ensures { option_map commanded result ≡ rig_of (option_map (λ v. map planned v.items) plans) }
+{
+    let plans = plans?;
+    if plans.len() <= PORTS as usize {
+        Some(Command::Rig(plans))
+    } else {
+        None
     }
 }

@@ -1,7 +1,9 @@
-use crate::answer::{Answer, answer_book};
+use crate::answer::Answer;
+use crate::desk::Desk;
+use crate::layered::Layered;
 use crate::line::{Command, parse_line};
 use crate::session::transcript;
-use book::Book;
+use device::{Device, Projector, Trail};
 use std::test::Fail;
 
 #[test]
@@ -28,8 +30,32 @@ fn digits_may_be_split(rt: HostRuntime) -> Result<(), Fail> {
 #[test]
 fn a_long_book_is_refused(rt: HostRuntime) -> Result<(), Fail> {
     let bytes = [0; 8193];
-    let answer = Answer::Book(answer_book(&mut Book::new(), &bytes));
+    let answer = Answer::Book(Desk::new().check_book(&bytes));
     let text = answer.to_string(rt.alloc())?;
-    assert_eq!(rt; text.as_str(), "book refused 1 at 65535");
+    assert_eq!(rt; text.as_str(), "book refused 1 at 65535\n");
+    Ok(())
+}
+
+#[test]
+fn a_rig_is_held_until_another_is(rt: HostRuntime) -> Result<(), Fail> {
+    let text = transcript(
+        rt.alloc(),
+        b"ports\nrig trail/projector:02 projector\nrig patch=10101010101010101010101010101010/projector\nports\n",
+    )?;
+    assert_eq!(rt;
+        text.as_str(),
+        "line 1: not understood\nrig 2 ports\nrig refused 31 at 65535\nport 0 station 0, heard 0\nport 1 station 0, heard 0\n"
+    );
+    Ok(())
+}
+
+#[test]
+fn a_layer_means_what_is_below(rt: HostRuntime) -> Result<(), Fail> {
+    let mut device = Layered::Trailed(Trail::new(Projector::new(&[])));
+    assert_eq!(rt; device.edge(0, 0, 0), Some(1));
+    assert_eq!(rt; device.ask(0), 0);
+    assert_eq!(rt; device.station(), 1);
+    assert_eq!(rt; device.ask(0), 255);
+    assert_eq!(rt; device.heard(), 2);
     Ok(())
 }

@@ -1,11 +1,10 @@
-// Answers the lines of standard input, or checks the book in a file.
+// Answers the lines of standard input, or checks the book in a file, and the script in another.
 #![tactic(auto)]
 
 mod failure;
 mod request;
 
-use book::Book;
-use console::{Answer, answer_book, transcript};
+use console::{Answer, Desk, transcript};
 use failure::Failure;
 use request::{Request, request_of};
 use std::io::{Read, Write};
@@ -26,7 +25,7 @@ fn main(rt: HostRuntime) -> ExitCode {
 fn run(rt: &HostRuntime) -> Result<(), Failure> {
     match request_of(&words(rt)?).ok_or(Failure::Usage)? {
         Request::Answer => answer_input(rt)?,
-        Request::Check(path) => check_file(rt, path)?,
+        Request::Check(book, script) => check_files(rt, book, script)?,
     }
     Ok(())
 }
@@ -44,11 +43,21 @@ fn answer_input(rt: &HostRuntime) -> io::Result<()> {
     rt.stdout().write_all(text.as_bytes())
 }
 
-fn check_file(rt: &HostRuntime, path: &str) -> Result<(), Failure> {
-    let bytes = fs::read(rt, path)?;
-    let mut book = Book::new();
-    let kinds = answer_book(&mut book, &bytes);
-    println!(rt; "{}", Answer::Book(kinds))?;
-    kinds?;
+// Prints what the console would answer; the first refusal is the failure.
+fn check_files(rt: &HostRuntime, book: &str, script: Option<&str>) -> Result<(), Failure> {
+    let bytes = fs::read(rt, book)?;
+    let script = match script {
+        Some(script) => Some(fs::read(rt, script)?),
+        None => None,
+    };
+    let mut desk = Desk::new();
+    let mut passed = desk.check_book(&bytes);
+    print!(rt; "{}", Answer::Book(passed))?;
+    if let Some(bytes) = &script {
+        let parts = desk.check_script(bytes);
+        print!(rt; "{}", Answer::Script(parts))?;
+        passed = passed.and(parts);
+    }
+    passed?;
     Ok(())
 }

@@ -5,7 +5,8 @@ ghost use Rattle.surtitle.specs.Requests.{asked, asked_of};
 #[derive(Clone, Copy)]
 pub enum Request<'a> {
     Answer,
-    Check(&'a str),
+    // a book, and a script over it
+    Check(&'a str, Option<&'a str>),
 }
 
 // None where the program knows no such request; the first word is the program's own name.
@@ -14,7 +15,10 @@ pub fn request_of(args: &[String]) -> Option<Request<'_>>
 {
     match args {
         [] | [_] => Some(Request::Answer),
-        [_, word, path] if word.as_str() == "check" => Some(Request::Check(path)),
+        [_, word, book] if word.as_str() == "check" => Some(Request::Check(book, None)),
+        [_, word, book, script] if word.as_str() == "check" => {
+            Some(Request::Check(book, Some(script)))
+        }
         _ => None,
     }
 }

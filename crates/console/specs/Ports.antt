@@ -1,0 +1,30 @@
+-- The console's rig: what it means, and what it shows.
+use Rattle.std.specs.Prelude.{ℕ, List, length, map, vec_items}
+use Rattle.std.specs.List.{range_with_len}
+use Rattle.device.specs.declared.projector.Projector.{Projector}
+use Rattle.device.specs.declared.row.Row.{Row}
+use Rattle.device.specs.Built.{row_ports}
+use Rattle.device.specs.Meaning.{Meaning}
+use Rattle.device.specs.Ports.{Ports, heard_at, station_at}
+use Rattle.device.specs.Projector.{projector_meaning}
+use Rattle.console.specs.declared.layered.Layered.{Layered}
+use Rattle.console.specs.declared.ports.PortLine.{PortLine}
+use Rattle.console.specs.Layers.{layered_meaning}
+
+abbrev pub Nest : Type 0
+Nest = Layered (Layered (Layered (Layered (Layered (Layered (Layered (Layered Projector)))))))
+
+abbrev pub nest_meaning : Nest → Meaning
+nest_meaning =
+    layered_meaning (layered_meaning (layered_meaning (layered_meaning
+    (layered_meaning (layered_meaning (layered_meaning (layered_meaning projector_meaning)))))))
+
+abbrev pub rig_ports : Row Nest → Ports
+rig_ports rig = row_ports (map nest_meaning (vec_items rig.devices))
+
+-- what a port shows
+abbrev pub port_line : Ports → ℕ → PortLine
+port_line g p = record { port = p; station = station_at g p; heard = heard_at g p }
+
+abbrev pub port_lines : Ports → List PortLine
+port_lines g = map (port_line g) (range_with_len 0 (length g))
