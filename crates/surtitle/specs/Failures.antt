@@ -5,6 +5,6 @@ use Rattle.surtitle.specs.declared.failure.Failure.{Failure}
 use Rattle.surtitle.specs.declared.failure.Failure.TheVariants.{Usage, Refused, Io}
 
 abbrev pub failure_text : Failure → Option (List ℕ)
-failure_text Usage = Some (codes "usage: surtitle [check BOOK [SCRIPT]]")
+failure_text Usage = Some (codes "usage: surtitle [check BOOK [SCRIPT] | play BOOK SCRIPT DEVICE .. | evening]")
 failure_text (Refused fault) = Some (text_of fault)
 failure_text (Io error) = None

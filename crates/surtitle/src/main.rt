@@ -26,6 +26,8 @@ fn run(rt: &HostRuntime) -> Result<(), Failure> {
     match request_of(&words(rt)?).ok_or(Failure::Usage)? {
         Request::Answer => answer_input(rt)?,
         Request::Check(book, script) => check_files(rt, book, script)?,
+        Request::Play(book, script, devices) => {}
+        Request::Evening => {}
     }
     Ok(())
 }
