@@ -1,3 +1,4 @@
+pub mod Acting
 pub mod Pairs
 pub mod Mounting
 pub mod Somes

@@ -1,6 +1,7 @@
 -- One line of many is answered.
 use Rattle.std.proofs.Common.{◌≡◌, ℕ, ◌+◌, ◌<◌, List, ◌∷◌, ◌++◌, map, length, get_or, drop, Option, sym, refl, ◌∙◌, subst, add-one}
 use Rattle.std.proofs.Math.Seq.{drop-cons}
+use Rattle.protocol.specs.declared.edges.Entry.{Entry}
 use Rattle.console.specs.declared.answer.Answer.{Answer}
 use Rattle.console.specs.Held.{Held}
 use Rattle.console.specs.Lines.{Parsed}
@@ -8,9 +9,9 @@ use Rattle.console.specs.Transcripts.{Answers, Transcript, printed}
 
 module _ {L : Type 0} (view : L → Parsed) (lines : List L) where
   -- what completes the lines behind it completes them with it
-  pub turn : (i number : ℕ) (line : L) (held held' : Held) (answer : Option Answer) (rest : List ℕ) → i < length lines → line ≡ get_or lines i line →
-      Answers number held (view line) answer held' → Transcript (number + 1) held' (map view (drop (i + 1) lines)) rest →
-      Transcript number held (map view (drop i lines)) (printed answer ++ rest)
-  turn i number line held held' answer rest within is a t =
+  pub turn : (i number : ℕ) (line : L) (held held' : Held) (answer : Option Answer) (es : List Entry) (rest : List ℕ) → i < length lines → line ≡ get_or lines i line →
+      Answers number held (view line) answer es held' → Transcript (number + 1) held' (map view (drop (i + 1) lines)) rest →
+      Transcript number held (map view (drop i lines)) (printed answer es ++ rest)
+  turn i number line held held' answer es rest within is a t =
       let first : drop i lines ≡ line ∷ drop (i + 1) lines = drop-cons lines i line within ∙ (rw (add-one, ← is) refl) in
-      subst (λ (ls : List L). Transcript number held (map view ls) (printed answer ++ rest)) (sym first) (answer, held', rest, a, t, refl)
+      subst (λ (ls : List L). Transcript number held (map view ls) (printed answer es ++ rest)) (sym first) (answer, es, held', rest, a, t, refl)

@@ -1,10 +1,14 @@
+pub mod Acts
 pub mod Answers
+pub mod Commands
 pub mod Devices
 pub mod Held
 pub mod Hex
 pub mod Layers
 pub mod Lines
+pub mod Numbers
 pub mod Plans
 pub mod Ports
 pub mod Transcripts
 pub mod Views
+pub mod Words

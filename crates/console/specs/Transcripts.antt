@@ -1,32 +1,34 @@
 -- What is answered to a row of lines.
 use Rattle.std.specs.Prelude.{◌≡◌, ℕ, ◌+◌, List, [], ◌∷◌, ◌++◌, Some, None, Option}
+use Rattle.protocol.specs.declared.edges.Entry.{Entry}
 use Rattle.book.specs.Reading.{read_book}
 use Rattle.console.specs.declared.answer.Answer.{Answer}
 use Rattle.console.specs.declared.answer.Answer.TheVariants.{Book, Script, NotUnderstood}
-use Rattle.console.specs.Answers.{answer_text, count_kinds, count_parts, ports_answer, rig_answer}
+use Rattle.console.specs.Acts.{Acts}
+use Rattle.console.specs.Answers.{count_kinds, count_parts, reply_text, rig_answer}
 use Rattle.console.specs.Held.{Held, book_after, rig_after, script_after, script_read}
-use Rattle.console.specs.Lines.{Parsed, blank, book, script, rig, ports, unknown}
+use Rattle.console.specs.Lines.{Parsed, blank, book, script, rig, stage, unknown}
 use Rattle.console.specs.Plans.{mounted}
 
--- the answer to the line of that number, and what is held after it
-abbrev pub Answers : ℕ → Held → Parsed → Option Answer → Held → Type 0
-Answers number held blank answer held' = (answer ≡ None) × (held' ≡ held)
-Answers number held (book bs) answer held' =
-    (answer ≡ Some (Book (count_kinds (read_book bs)))) × (held' ≡ book_after held bs (read_book bs))
-Answers number held (script bs) answer held' =
-    (answer ≡ Some (Script (count_parts (script_read held bs)))) × (held' ≡ script_after held (script_read held bs))
-Answers number held (rig plans) answer held' =
-    (answer ≡ Some (rig_answer number (mounted plans))) × (held' ≡ rig_after held (mounted plans))
-Answers number held ports answer held' = (answer ≡ Some (ports_answer number held.rig)) × (held' ≡ held)
-Answers number held unknown answer held' = (answer ≡ Some (NotUnderstood number)) × (held' ≡ held)
+-- the answer to the line of that number, its entries, and what is held after it
+abbrev pub Answers : ℕ → Held → Parsed → Option Answer → List Entry → Held → Type 0
+Answers number held blank answer es held' = (answer ≡ None) × (es ≡ []) × (held' ≡ held)
+Answers number held (book bs) answer es held' =
+    (answer ≡ Some (Book (count_kinds (read_book bs)))) × (es ≡ []) × (held' ≡ book_after held bs (read_book bs))
+Answers number held (script bs) answer es held' =
+    (answer ≡ Some (Script (count_parts (script_read held bs)))) × (es ≡ []) × (held' ≡ script_after held (script_read held bs))
+Answers number held (rig plans) answer es held' =
+    (answer ≡ Some (rig_answer number (mounted plans))) × (es ≡ []) × (held' ≡ rig_after held (mounted plans))
+Answers number held (stage command) answer es held' = (a : Answer) × (answer ≡ Some a) × Acts number held command a es held'
+Answers number held unknown answer es held' = (answer ≡ Some (NotUnderstood number)) × (es ≡ []) × (held' ≡ held)
 
-abbrev pub printed : Option Answer → List ℕ
-printed None = []
-printed (Some answer) = answer_text answer
+abbrev pub printed : Option Answer → List Entry → List ℕ
+printed None es = []
+printed (Some answer) es = reply_text answer es
 
 -- the text that is answered to the lines from that number on
 abbrev pub Transcript : ℕ → Held → List Parsed → List ℕ → Type 0
 Transcript number held [] text = text ≡ []
 Transcript number held (line ∷ lines) text =
-    (answer : Option Answer) × (held' : Held) × (rest : List ℕ)
-    × Answers number held line answer held' × Transcript (number + 1) held' lines rest × (text ≡ printed answer ++ rest)
+    (answer : Option Answer) × (es : List Entry) × (held' : Held) × (rest : List ℕ)
+    × Answers number held line answer es held' × Transcript (number + 1) held' lines rest × (text ≡ printed answer es ++ rest)

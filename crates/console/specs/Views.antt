@@ -1,16 +1,16 @@
 -- What a line in memory holds.
 use Rattle.std.specs.Prelude.{map, vec_items, Some, None, Ok, Err, Option, Result}
 use Rattle.console.specs.declared.line.Command.{Command}
-use Rattle.console.specs.declared.line.Command.TheVariants.{Book, Script, Rig, Ports}
+use Rattle.console.specs.declared.line.Command.TheVariants.{Book, Script, Rig, Stage}
 use Rattle.console.specs.declared.line.NotUnderstood.{NotUnderstood}
-use Rattle.console.specs.Lines.{Parsed, blank, book, script, rig, ports, unknown}
+use Rattle.console.specs.Lines.{Parsed, blank, book, script, rig, stage, unknown}
 use Rattle.console.specs.Plans.{planned}
 
 abbrev pub commanded : Command → Parsed
 commanded (Book v) = book (vec_items v)
 commanded (Script v) = script (vec_items v)
 commanded (Rig v) = rig (map planned (vec_items v))
-commanded Ports = ports
+commanded (Stage command) = stage command
 
 abbrev pub asked : Result Command NotUnderstood → Parsed
 asked (Ok command) = commanded command

@@ -2,11 +2,12 @@
 ghost use Rattle.std.specs.Prelude.{Some};
 ghost use Rattle.std.specs.Fmt.{DisplaysOnOk};
 ghost use Rattle.std.specs.List.{flat_map};
-ghost use Rattle.console.specs.Answers.{answer_text, port_text, refused};
+ghost use Rattle.console.specs.Answers.{answer_text, look_text, port_text, refused, report_text};
 
 use crate::ports::PortLine;
 use arrayvec::ArrayVec;
 use faults::Fault;
+use machine::{Reason, Report};
 use std::fmt;
 
 #[derive(Drop)]
@@ -17,7 +18,15 @@ pub enum Answer {
     Script(Result<u8, Fault>),
     // how many ports the rig has, or why it is refused
     Rig(Result<u8, Fault>),
-    // what they show
+    Player,
+    // how many ports the begun player has, or why begin is refused
+    Begun(Result<u8, Fault>),
+    Went(Result<Report, Fault>),
+    // the station that the player keeps, and whether it is over
+    Looked(Result<(u8, bool), Fault>),
+    // how many letters were sent
+    Struck(Result<u32, Fault>),
+    // what the ports of the rig show
     Ports(ArrayVec<PortLine, 8>),
     // the number of the line, from 1
     NotUnderstood(u64),
@@ -35,6 +44,15 @@ impl fmt::Display for Answer {
             Answer::Script(Err(fault)) => write_refused("script", fault, f),
             Answer::Rig(Ok(ports)) => writeln!(f, "rig {ports} ports"),
             Answer::Rig(Err(fault)) => write_refused("rig", fault, f),
+            Answer::Player => writeln!(f, "player new"),
+            Answer::Begun(Ok(ports)) => writeln!(f, "begun, {ports} ports"),
+            Answer::Begun(Err(fault)) => write_refused("begin", fault, f),
+            Answer::Went(Ok(report)) => write_report(report, f),
+            Answer::Went(Err(fault)) => write_refused("go", fault, f),
+            Answer::Looked(Ok((station, over))) => write_look(*station, *over, f),
+            Answer::Looked(Err(fault)) => write_refused("look", fault, f),
+            Answer::Struck(Ok(letters)) => writeln!(f, "strike {letters} letters"),
+            Answer::Struck(Err(fault)) => write_refused("strike", fault, f),
             Answer::Ports(lines) => write_ports(lines.as_slice(), f),
             Answer::NotUnderstood(line) => writeln!(f, "line {line}: not understood"),
         }
@@ -47,6 +65,37 @@ fn write_refused<W: fmt::Write>(what: &str, fault: &Fault, f: &mut fmt::Formatte
     let number = fault.number();
     let place = fault.place();
     writeln!(f, "{what} refused {number} at {place}")
+}
+
+fn write_report<W: fmt::Write>(report: &Report, f: &mut fmt::Formatter<W>) -> fmt::Result
+    ensures { DisplaysOnOk W.write_str_gives f.old result (Some (report_text report.now)) f.new }
+{
+    let Report {
+        reason,
+        steps,
+        letters,
+    } = *report;
+    match reason {
+        Reason::End => writeln!(f, "go end, {steps} steps, {letters} letters"),
+        Reason::Spent => writeln!(f, "go spent, {steps} steps, {letters} letters"),
+        Reason::Cue(number) => { writeln!(f, "go cue {number}, {steps} steps, {letters} letters") }
+        Reason::Failed { code, place } => {
+            writeln!(
+                f,
+                "go failed {code} at {place}, {steps} steps, {letters} letters"
+            )
+        }
+    }
+}
+
+fn write_look<W: fmt::Write>(station: u8, over: bool, f: &mut fmt::Formatter<W>) -> fmt::Result
+    ensures { DisplaysOnOk W.write_str_gives f.old result (Some (look_text station over)) f.new }
+{
+    if over {
+        writeln!(f, "look station {station}, over")
+    } else {
+        writeln!(f, "look station {station}, begun")
+    }
 }
 
 fn write_ports<W: fmt::Write>(lines: &[PortLine], f: &mut fmt::Formatter<W>) -> fmt::Result

@@ -1,7 +1,8 @@
 // What the console holds between two lines, and how a line changes it.
 ghost use Rattle.std.specs.Prelude.{◌≡◌, map, IfOk, OnErr, OnOk};
 ghost use Rattle.book.specs.Reading.{read_book};
-ghost use Rattle.console.specs.Answers.{count_kinds, count_parts, ports_answer, rig_answer};
+ghost use Rattle.console.specs.Acts.{entries_for};
+ghost use Rattle.console.specs.Answers.{count_kinds, count_parts, rig_answer};
 ghost use Rattle.console.specs.Held.{book_after, held_of, nothing_held, rig_after, script_after, script_read};
 ghost use Rattle.console.specs.Plans.{mounted, planned};
 ghost use Rattle.console.specs.Transcripts.{Answers};
@@ -11,10 +12,11 @@ use crate::answer::Answer;
 use crate::line::{Command, Line, NotUnderstood};
 use crate::nest::Nest;
 use crate::plan::{Plan, build_all};
-use crate::ports::port_lines;
 use book::Book;
 use device::{Rig, Row};
 use faults::Fault;
+use player::Player;
+use protocol::Entry;
 use script::Script;
 use std::alloc::{AllocError, Global};
 
@@ -22,18 +24,33 @@ use std::alloc::{AllocError, Global};
 pub struct Desk<'a> {
     book: Book<'a>,
     script: Script<'a>,
+    player: Player<'a>,
     rig: Option<Row<Nest<'a>>>,
+    // of the last go or strike
+    log: [Entry; ROOM],
 }
 
+// The longest log of a call.
+const ROOM: usize = 4096;
+
+const BLANK: Entry = Entry {
+    port: 0,
+    letter: 0,
+    answer: 0,
+    station: 0,
+};
+
 impl<'a> Desk<'a> {
-    // The empty book, the empty script, and no rig.
+    // The empty book, the empty script, a new player, and no rig.
     pub fn new() -> Desk<'a>
         ensures { held_of result ≡ nothing_held }
     {
         Desk {
             book: Book::new(),
             script: Script::new(),
+            player: Player::new(),
             rig: None,
+            log: [BLANK; ROOM],
         }
     }
 
@@ -81,16 +98,6 @@ impl<'a> Desk<'a> {
         }
     }
 
-    // What the ports show, if there is a rig.
-    fn ports(&self, number: u64) -> Answer
-        ensures { result ≡ ports_answer number (held_of self.now).rig }
-    {
-        match &self.rig {
-            Some(rig) => Answer::Ports(port_lines(rig)),
-            None => Answer::NotUnderstood(number),
-        }
-    }
-
     // The answer to the line of that number, if it asks for one. Without memory the line counts for nothing.
     pub fn answer(
         &mut self,
@@ -98,7 +105,7 @@ impl<'a> Desk<'a> {
         number: u64,
         line: &'a Line,
     ) -> Result<Option<Answer>, AllocError>
-        ensures answers { IfOk result (λ answer. Answers number (held_of self.old) (view line.now) answer (held_of self.new)) }
+        ensures answers { IfOk result (λ answer. Answers number (held_of self.old) (view line.now) answer (entries_for self.new answer) (held_of self.new)) }
         ensures lost { OnErr result (held_of self.new ≡ held_of self.old) }
     {
         match line {
@@ -106,8 +113,10 @@ impl<'a> Desk<'a> {
             Some(Ok(Command::Book(bytes))) => Ok(Some(Answer::Book(self.check_book(bytes)))),
             Some(Ok(Command::Script(bytes))) => Ok(Some(Answer::Script(self.check_script(bytes)))),
             Some(Ok(Command::Rig(plans))) => Ok(Some(self.hold_rig(heap, number, plans)?)),
-            Some(Ok(Command::Ports)) => Ok(Some(self.ports(number))),
+            Some(Ok(Command::Stage(command))) => Ok(Some(self.act(number, *command))),
             Some(Err(NotUnderstood)) => Ok(Some(Answer::NotUnderstood(number))),
         }
     }
 }
+
+mod acts;

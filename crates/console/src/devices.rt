@@ -2,7 +2,7 @@
 ghost use Rattle.std.specs.Prelude.{◌≡◌, map, IfOk, vec_items};
 ghost use Rattle.std.specs.Option.{option_map};
 ghost use Rattle.console.specs.Devices.{all_some, device_of, layer_of, patch_of, pieces, plan_from, replies_of};
-ghost use Rattle.console.specs.Lines.{words};
+ghost use Rattle.console.specs.Words.{words};
 ghost use Rattle.console.specs.Plans.{planned};
 
 use crate::digits::hex_bytes;

@@ -2,7 +2,7 @@
 ghost use Rattle.std.specs.Prelude.{◌≡◌, IfOk, vec_items};
 ghost use Rattle.std.specs.Option.{option_map};
 ghost use Rattle.console.specs.Hex.{hex_bytes};
-ghost use Rattle.console.specs.Lines.{no_blanks};
+ghost use Rattle.console.specs.Words.{no_blanks};
 
 use crate::words::is_blank;
 use hex::decode_to_slice;

@@ -1,26 +1,24 @@
 // What a line of input asks for.
 ghost use Rattle.std.specs.Prelude.{◌≡◌, IfOk, map};
 ghost use Rattle.std.specs.Option.{option_map};
-ghost use Rattle.console.specs.Lines.{after_word, command_of, first_word, line_of, rig_of, verb_of};
+ghost use Rattle.console.specs.Lines.{line_of, rig_of, verb_of, worded};
 ghost use Rattle.console.specs.Plans.{planned};
 ghost use Rattle.console.specs.Views.{asked, commanded, view};
 
 use crate::devices::parse_devices;
 use crate::digits::spaced_bytes;
 use crate::plan::Plan;
-use crate::words::{skip_blanks, split_word};
+use crate::stage::{StageCommand, stage_command};
+use crate::words::{REMARK, skip_blanks, split_word};
 use device::PORTS;
 use std::alloc::{AllocError, Global};
-
-// The first byte of a line that asks for nothing.
-const REMARK: u8 = b'#';
 
 #[derive(Drop)]
 pub enum Command {
     Book(Vec<u8>),
     Script(Vec<u8>),
     Rig(Vec<Plan>),
-    Ports,
+    Stage(StageCommand),
 }
 
 // A line that is no command: it is answered, and the console goes on.
@@ -35,17 +33,19 @@ pub fn parse_line(heap: Global, line: &[u8]) -> Result<Line, AllocError>
 {
     match skip_blanks(line) {
         [] | [REMARK, ..] => Ok(None),
-        text => Ok(Some(parse_command(heap, text)?)),
+        text => {
+            let (word, rest) = split_word(text);
+            Ok(Some(parse_command(heap, word, rest)?))
+        }
     }
 }
 
-// A command by its first word.
+// The first word of a command that is kept in memory.
 #[derive(Clone, Copy)]
 enum Verb {
     Book,
     Script,
     Rig,
-    Ports,
 }
 
 fn verb_of(word: &[u8]) -> Option<Verb>
@@ -57,17 +57,18 @@ fn verb_of(word: &[u8]) -> Option<Verb>
         Some(Verb::Script)
     } else if word == b"rig".as_slice() {
         Some(Verb::Rig)
-    } else if word == b"ports".as_slice() {
-        Some(Verb::Ports)
     } else {
         None
     }
 }
 
-fn parse_command(heap: Global, text: &[u8]) -> Result<Result<Command, NotUnderstood>, AllocError>
-    ensures { IfOk result (λ r. asked r ≡ command_of (verb_of (first_word text.now)) (after_word text.now)) }
+fn parse_command(
+    heap: Global,
+    word: &[u8],
+    rest: &[u8],
+) -> Result<Result<Command, NotUnderstood>, AllocError>
+    ensures { IfOk result (λ r. asked r ≡ worded word.now rest.now) }
 {
-    let (word, rest) = split_word(text);
     match verb_of(word) {
         Some(Verb::Book) => {
             let bytes = spaced_bytes(heap, rest)?;
@@ -81,8 +82,11 @@ fn parse_command(heap: Global, text: &[u8]) -> Result<Result<Command, NotUnderst
             let plans = parse_devices(heap, rest)?;
             Ok(rig_of(plans).ok_or(NotUnderstood))
         }
-        Some(Verb::Ports) if skip_blanks(rest).is_empty() => Ok(Ok(Command::Ports)),
-        Some(Verb::Ports) | None => Ok(Err(NotUnderstood)),
+        None => Ok(
+            stage_command(word, rest)
+                .map(Command::Stage)
+                .ok_or(NotUnderstood),
+        ),
     }
 }
 

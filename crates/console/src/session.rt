@@ -1,5 +1,7 @@
 // All the lines of an input, and all that is answered.
 ghost use Rattle.std.specs.Prelude.{◌≡◌, ◌++◌, map, IfOk, OnOk, string_bytes};
+ghost use Rattle.console.specs.Acts.{entries_for};
+ghost use Rattle.console.specs.Answers.{reply_text};
 ghost use Rattle.console.specs.Held.{nothing_held};
 ghost use Rattle.console.specs.Lines.{lines_of};
 ghost use Rattle.console.specs.Transcripts.{Transcript, printed};
@@ -8,6 +10,8 @@ ghost use Rattle.console.specs.Views.{view};
 use crate::answer::Answer;
 use crate::desk::Desk;
 use crate::line::{Line, parse_line};
+use crate::reply::Reply;
+use protocol::Entry;
 use std::alloc::{AllocError, Global};
 
 // What the console prints for all of an input.
@@ -37,16 +41,23 @@ fn answer_lines(heap: Global, lines: &[Line]) -> Result<String, AllocError>
     // zipped with numbers, a proof would not know that the lines are at an end where the loop is
     for (i, line) in lines.iter().enumerate() {
         let answer = desk.answer(heap, i as u64 + 1, line)?;
-        write_answer(&mut text, answer)?;
+        write_answer(&mut text, &desk, answer)?;
     }
     Ok(text)
 }
 
-fn write_answer(text: &mut String, answer: Option<Answer>) -> Result<(), AllocError>
-    ensures { OnOk result (string_bytes text.new ≡ string_bytes text.old ++ printed answer) }
+fn write_answer(text: &mut String, desk: &Desk, answer: Option<Answer>) -> Result<(), AllocError>
+    ensures { OnOk result (string_bytes text.new ≡ string_bytes text.old ++ printed answer (entries_for desk.now answer)) }
 {
     match answer {
-        Some(answer) => text.write(answer).map_err(|_| AllocError),
+        Some(answer) => write_reply(text, &answer, desk.entries(&answer)),
         None => Ok(()),
     }
+}
+
+fn write_reply(text: &mut String, answer: &Answer, entries: &[Entry]) -> Result<(), AllocError>
+    ensures { OnOk result (string_bytes text.new ≡ string_bytes text.old ++ reply_text answer.now entries.now) }
+{
+    text.write(Reply { answer, entries })
+        .map_err(|_| AllocError)
 }

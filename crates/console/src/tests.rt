@@ -1,9 +1,12 @@
 use crate::answer::Answer;
 use crate::desk::Desk;
 use crate::layered::Layered;
-use crate::line::{Command, parse_line};
+use crate::line::{Command, NotUnderstood, parse_line};
+use crate::reply::Reply;
 use crate::session::transcript;
+use crate::stage::{StageCommand, parse_stage};
 use device::{Device, Projector, Trail};
+use protocol::Entry;
 use std::test::Fail;
 
 #[test]
@@ -46,6 +49,48 @@ fn a_rig_is_held_until_another_is(rt: HostRuntime) -> Result<(), Fail> {
         text.as_str(),
         "line 1: not understood\nrig 2 ports\nrig refused 31 at 65535\nport 0 station 0, heard 0\nport 1 station 0, heard 0\n"
     );
+    Ok(())
+}
+
+#[test]
+fn a_player_is_asked(rt: HostRuntime) -> Result<(), Fail> {
+    let text = transcript(
+        rt.alloc(),
+        b"player\nbegin\nrig projector\nbegin\nlook 0\ngo 1 120\nstrike 4097\n",
+    )?;
+    assert_eq!(rt;
+        text.as_str(),
+        "player new\nline 2: not understood\nrig 1 ports\nbegin refused 24 at 65535\nlook refused 31 at 0\ngo refused 27 at 65535\nline 7: not understood\n"
+    );
+    Ok(())
+}
+
+#[test]
+fn a_line_is_parsed_without_memory(rt: HostRuntime) -> Result<(), Fail> {
+    let go = StageCommand::Go {
+        steps: 7,
+        room: 2000,
+    };
+    assert_eq!(rt; parse_stage(b" go 007 "), Some(Ok(go)));
+    assert_eq!(rt; parse_stage(b"look 256"), Some(Err(NotUnderstood)));
+    assert_eq!(rt; parse_stage(b"# look 0"), None);
+    Ok(())
+}
+
+#[test]
+fn a_letter_has_its_own_line(rt: HostRuntime) -> Result<(), Fail> {
+    let entries = [Entry {
+        port: 1,
+        letter: 3,
+        answer: 2,
+        station: 4,
+    }];
+    let reply = Reply {
+        answer: &Answer::Struck(Ok(1)),
+        entries: &entries,
+    };
+    let text = reply.to_string(rt.alloc())?;
+    assert_eq!(rt; text.as_str(), "strike 1 letters\n  1 3 2 4\n");
     Ok(())
 }
 

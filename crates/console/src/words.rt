@@ -1,6 +1,9 @@
 // Blanks and words of a line.
 ghost use Rattle.std.specs.Prelude.{◌≡◌};
-ghost use Rattle.console.specs.Lines.{after_blanks, after_word, first_word, is_blank};
+ghost use Rattle.console.specs.Words.{after_blanks, after_word, first_word, is_blank};
+
+// The first byte of a line that asks for nothing.
+pub(crate) const REMARK: u8 = b'#';
 
 pub(crate) fn is_blank(byte: u8) -> bool
     ensures { result ≡ is_blank byte }

@@ -1,7 +1,7 @@
 use Rattle.std.proofs.Common.{rules, tests, List, ℕ, length, nat_lt}
 use Rattle.std.proofs.lemmas.Iterator.Consumers.{YieldsList-from_filter, map_from_collect}
 use Rattle.std.proofs.lemmas.Iterator.Splits.{YieldsList-from_slice_split}
-use Rattle.console.specs.Lines.{is_blank}
+use Rattle.console.specs.Words.{is_blank}
 use Rattle.console.proofs.devices.words.Goals as goal
 
 pub returns : goal.returns

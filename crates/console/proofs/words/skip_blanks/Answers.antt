@@ -4,7 +4,7 @@ use Rattle.std.proofs.lemmas.Iterator.Consumers.{count_from_yields_List}
 use Rattle.std.proofs.lemmas.Iterator.Search.{YieldsList-from_take_while}
 use Rattle.std.proofs.lemmas.List.{take_rest}
 use Rattle.std.proofs.lemmas.List.Folds.{length-prefix_len}
-use Rattle.console.specs.Lines.{is_blank}
+use Rattle.console.specs.Words.{is_blank}
 use Rattle.console.proofs.words.skip_blanks.Goals as goal
 
 pub returns : goal.returns

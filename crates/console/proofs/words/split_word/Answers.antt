@@ -3,7 +3,7 @@ use Rattle.std.proofs.lemmas.Iterator.{YieldsList-from_slice}
 use Rattle.std.proofs.lemmas.Iterator.Consumers.{count_from_yields_List}
 use Rattle.std.proofs.lemmas.Iterator.Search.{YieldsList-from_take_while}
 use Rattle.std.proofs.lemmas.List.Folds.{length-prefix_len}
-use Rattle.console.specs.Lines.{in_word}
+use Rattle.console.specs.Words.{in_word}
 use Rattle.console.proofs.words.split_word.Goals as goal
 
 pub returns : goal.returns
