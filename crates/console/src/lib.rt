@@ -25,7 +25,7 @@ pub use layer::Layer;
 pub use layered::Layered;
 pub use line::{Command, Line, NotUnderstood, parse_line};
 pub use plan::Plan;
-pub use ports::PortLine;
+pub use ports::{PortLine, port_lines};
 pub use reply::Reply;
 pub use session::transcript;
 pub use stage::{StageCommand, parse_stage};

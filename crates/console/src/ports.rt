@@ -13,7 +13,7 @@ pub struct PortLine {
 }
 
 // All of them, in order.
-pub(crate) fn port_lines<R: Rig>(rig: &R) -> ArrayVec<PortLine, 8>
+pub fn port_lines<R: Rig>(rig: &R) -> ArrayVec<PortLine, 8>
     ensures { result.items ≡ port_lines (R.ports rig.now) }
 {
     let mut lines = ArrayVec::new();

@@ -1,11 +1,10 @@
 // The show that the program has with it: three projectors, each under other layers, whose lamps answer in three ways.
 use crate::failure::Failure;
 use book::Book;
-use console::{Answer, Reply, port_lines};
+use console::{Answer, port_lines};
 use device::{Before, LetterMap, Patch, Projector, Rig, Single, Trail};
 use player::{Call, Performance, perform};
 use script::Script;
-use std::alloc::AllocError;
 use std::io;
 
 // The kind projector: 0 grants it, 1 returns it, 2 leads it on to the lamp, which 3 queries, and 6 leads it back.
@@ -19,12 +18,12 @@ const BOOK: [u8; 68] = [
 // projectors, cues, runs the part on it, and returns it.
 const SCRIPT: [u8; 150] = [
     0x10, 1, 0, 2, 1, 255, 255, 255, 255, 255, 255, 255, 255, 255, 255, 255, 255, 255, 255, 255,
-    255, 255, 255, 255, 255, 255, 19, 0, 0x21, 0, 3, 4, 0, 4, 0, 0, 0, 0, 0, 0x20, 0, 6, 0, 0x20, 0,
-    6, 0, 0x10, 3, 0, 0, 0, 0, 0, 0, 0, 0, 0, 255, 255, 255, 255, 255, 255, 255, 255, 255, 255, 255,
-    255, 255, 255, 255, 75, 0, 0x20, 0, 0, 0, 0x20, 0, 2, 0, 0x27, 1, 0, 0x24, 0, 0, 255, 255, 255,
-    255, 255, 255, 255, 0x20, 0, 1, 0, 0x20, 1, 0, 0, 0x20, 1, 2, 0, 0x27, 2, 0, 0x24, 0, 1, 255,
-    255, 255, 255, 255, 255, 255, 0x20, 1, 1, 0, 0x20, 2, 0, 0, 0x20, 2, 2, 0, 0x27, 3, 0, 0x24, 0,
-    2, 255, 255, 255, 255, 255, 255, 255, 0x20, 2, 1, 0,
+    255, 255, 255, 255, 255, 255, 19, 0, 0x21, 0, 3, 4, 0, 4, 0, 0, 0, 0, 0, 0x20, 0, 6, 0, 0x20,
+    0, 6, 0, 0x10, 3, 0, 0, 0, 0, 0, 0, 0, 0, 0, 255, 255, 255, 255, 255, 255, 255, 255, 255, 255,
+    255, 255, 255, 255, 255, 75, 0, 0x20, 0, 0, 0, 0x20, 0, 2, 0, 0x27, 1, 0, 0x24, 0, 0, 255, 255,
+    255, 255, 255, 255, 255, 0x20, 0, 1, 0, 0x20, 1, 0, 0, 0x20, 1, 2, 0, 0x27, 2, 0, 0x24, 0, 1,
+    255, 255, 255, 255, 255, 255, 255, 0x20, 1, 1, 0, 0x20, 2, 0, 0, 0x20, 2, 2, 0, 0x27, 3, 0,
+    0x24, 0, 2, 255, 255, 255, 255, 255, 255, 255, 0x20, 2, 1, 0,
 ];
 
 // The letters of the kind go down as themselves, and no other does.
@@ -52,12 +51,11 @@ pub fn evening(rt: &HostRuntime) -> Result<(), Failure> {
     let (show, done) = perform(rt.alloc(), &mut rig, &calls);
     print_show(rt, &show)?;
     print!(rt; "{}", Answer::Ports(port_lines(&rig)))?;
-    done?;
-    Ok(())
+    Ok(done.map_err(io::Error::from)?)
 }
 
 // Three cues, and on to the end.
-fn calls<'a>(rt: &HostRuntime, script: &'a Script<'a>) -> Result<Vec<Call<'a>>, AllocError> {
+fn calls<'a>(rt: &HostRuntime, script: &'a Script<'a>) -> io::Result<Vec<Call<'a>>> {
     let mut calls = Vec::new(rt.alloc());
     calls.push(Call::Begin(script))?;
     for _ in 0..4 {
@@ -72,7 +70,10 @@ fn print_show(rt: &HostRuntime, show: &Performance) -> io::Result<()> {
         print!(rt; "{}", in_words(*answer))?;
     }
     for entry in &show.log {
-        println!(rt; "  {} {} {} {}", entry.port, entry.letter, entry.answer, entry.station)?;
+        println!(rt;
+            "  {} {} {} {}",
+            entry.port, entry.letter, entry.answer, entry.station
+        )?;
     }
     Ok(())
 }

@@ -19,7 +19,10 @@ impl fmt::Display for Failure {
 
     fn fmt<W: fmt::Write>(&self, f: &mut fmt::Formatter<W>) -> fmt::Result {
         match self {
-            Failure::Usage => write!(f, "usage: surtitle [check BOOK [SCRIPT] | play BOOK SCRIPT DEVICE .. | evening]"),
+            Failure::Usage => write!(
+                f,
+                "usage: surtitle [check BOOK [SCRIPT] | play BOOK SCRIPT DEVICE .. | evening]"
+            ),
             Failure::Refused(fault) => write!(f, "{fault}"),
             Failure::Io(error) => write!(f, "{error}"),
         }

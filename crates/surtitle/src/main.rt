@@ -1,11 +1,15 @@
-// Answers the lines of standard input, or checks the book in a file, and the script in another.
+// Answers the lines of standard input, checks the book in a file and the script in another, plays them, or performs an evening.
 #![tactic(auto)]
 
+mod evening;
 mod failure;
+mod play;
 mod request;
 
 use console::{Answer, Desk, transcript};
+use evening::evening;
 use failure::Failure;
+use play::play;
 use request::{Request, request_of};
 use std::io::{Read, Write};
 use std::process::ExitCode;
@@ -26,8 +30,8 @@ fn run(rt: &HostRuntime) -> Result<(), Failure> {
     match request_of(&words(rt)?).ok_or(Failure::Usage)? {
         Request::Answer => answer_input(rt)?,
         Request::Check(book, script) => check_files(rt, book, script)?,
-        Request::Play(book, script, devices) => {}
-        Request::Evening => {}
+        Request::Play(book, script, devices) => play(rt, book, script, devices)?,
+        Request::Evening => evening(rt)?,
     }
     Ok(())
 }

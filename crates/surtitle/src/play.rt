@@ -1,44 +1,54 @@
 // A desk for one show: two files and a rig, and then line after line as it comes.
 use crate::failure::Failure;
-use console::{Answer, Command, Desk, Line, NotUnderstood, Reply, StageCommand, parse_line, parse_stage};
-use std::alloc::AllocError;
+use console::{Answer, Desk, Line, NotUnderstood, Reply, StageCommand, parse_line, parse_stage};
+use protocol::Entry;
 use std::io::{BufRead, Write};
 use std::{fs, io};
 
-pub fn play(
-    rt: &HostRuntime,
-    book: &str,
-    script: &str,
-    devices: &[String],
-) -> Result<(), Failure> {
+pub fn play(rt: &HostRuntime, book: &str, script: &str, devices: &[String]) -> Result<(), Failure> {
     let book = fs::read(rt, book)?;
     let script = fs::read(rt, script)?;
     let rig = rig_line(rt, devices)?;
     let mut desk = Desk::new();
-    let kinds = desk.check_book(&book);
-    print!(rt; "{}", Answer::Book(kinds))?;
-    kinds?;
-    let parts = desk.check_script(&script);
-    print!(rt; "{}", Answer::Script(parts))?;
-    parts?;
-    match desk.answer(rt.alloc(), 0, &rig)? {
-        Some(Answer::Rig(ports)) => {
-            print!(rt; "{}", Answer::Rig(ports))?;
-            ports?;
-        }
-        _ => return Err(Failure::Usage),
-    }
+    load_book(rt, &mut desk, &book)?;
+    load_script(rt, &mut desk, &script)?;
+    load_rig(rt, &mut desk, &rig)?;
     Ok(answer_lines(rt, &mut desk)?)
 }
 
+// Each is answered as on the console; the first that is refused is the failure.
+fn load_book<'a>(rt: &HostRuntime, desk: &mut Desk<'a>, bytes: &'a [u8]) -> Result<(), Failure> {
+    let kinds = desk.check_book(bytes);
+    print!(rt; "{}", Answer::Book(kinds))?;
+    kinds?;
+    Ok(())
+}
+
+fn load_script<'a>(rt: &HostRuntime, desk: &mut Desk<'a>, bytes: &'a [u8]) -> Result<(), Failure> {
+    let parts = desk.check_script(bytes);
+    print!(rt; "{}", Answer::Script(parts))?;
+    parts?;
+    Ok(())
+}
+
+fn load_rig<'a>(rt: &HostRuntime, desk: &mut Desk<'a>, rig: &'a Line) -> Result<(), Failure> {
+    let answer = desk.answer(rt.alloc(), 0, rig).map_err(io::Error::from)?;
+    let Some(Answer::Rig(ports)) = answer else {
+        return Err(Failure::Usage);
+    };
+    print!(rt; "{}", Answer::Rig(ports))?;
+    ports?;
+    Ok(())
+}
+
 // The line that asks for the rig.
-fn rig_line(rt: &HostRuntime, devices: &[String]) -> Result<Line, AllocError> {
+fn rig_line(rt: &HostRuntime, devices: &[String]) -> io::Result<Line> {
     let mut line = b"rig".to_vec(rt.alloc())?;
     for device in devices {
         line.push(b' ')?;
         line.extend_from_slice(device.as_bytes())?;
     }
-    parse_line(rt.alloc(), &line)
+    Ok(parse_line(rt.alloc(), &line)?)
 }
 
 // Until the input ends. An operator waits for each answer, so each is written out at once.
@@ -55,13 +65,21 @@ fn answer_lines(rt: &HostRuntime, desk: &mut Desk) -> io::Result<()> {
     Ok(())
 }
 
-// The book, the script, the rig and the player stay for the whole show.
 fn answer_line(rt: &HostRuntime, desk: &mut Desk, number: u64, line: &[u8]) -> io::Result<()> {
-    let answer = match parse_stage(line.strip_suffix(b"\n").unwrap_or(line)) {
-        None => return Ok(()),
-        Some(Err(NotUnderstood)) | Some(Ok(StageCommand::Player)) => Answer::NotUnderstood(number),
-        Some(Ok(command)) => desk.act(number, command),
-    };
-    let entries = desk.entries(&answer);
-    print!(rt; "{}", Reply { answer: &answer, entries })
+    match answer(desk, number, line) {
+        Some(answer) => print_reply(rt, &answer, desk.entries(&answer)),
+        None => Ok(()),
+    }
+}
+
+// The book, the script, the rig and the player stay for the whole show.
+fn answer(desk: &mut Desk, number: u64, line: &[u8]) -> Option<Answer> {
+    match parse_stage(line.strip_suffix(b"\n".as_slice()).unwrap_or(line))? {
+        Err(NotUnderstood) | Ok(StageCommand::Player) => Some(Answer::NotUnderstood(number)),
+        Ok(command) => Some(desk.act(number, command)),
+    }
+}
+
+fn print_reply(rt: &HostRuntime, answer: &Answer, entries: &[Entry]) -> io::Result<()> {
+    print!(rt; "{}", Reply { answer, entries })
 }
