@@ -43,7 +43,7 @@ verb_of word =
     (cond (bytes_eq word (codes "script")) (Some Script)
     (cond (bytes_eq word (codes "rig")) (Some Rig) None))
 
--- what follows a word, which is no verb of these where it asks something of the player and the rig
+-- a verb and what follows it; another word asks something of the player and the rig, if anything
 abbrev pub command_of : Option Verb → List ℕ → List ℕ → Parsed
 command_of (Some Book) word rest = bytes_line book rest
 command_of (Some Script) word rest = bytes_line script rest
