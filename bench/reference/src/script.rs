@@ -52,9 +52,14 @@ pub enum Command {
 pub fn read(bytes: &[u8], block: Block) -> Option<(Command, usize)> {
     let Block { at, end } = block;
     let word = |low: u8, high: u8| low as usize | (high as usize) << 8;
-    match *bytes.get(at..end)? {
-        [0x20, handle, letter, register, ..] => Some((Command::Send { handle, letter, register }, at + 4)),
-        [0x21, handle, letter, a, b, c, d, e, f, g, h, ..] => {
+    let (opcode, operands) = bytes.get(at..end)?.split_first()?;
+    match opcode {
+        0x20 => {
+            let &[handle, letter, register, ..] = operands else { return None };
+            Some((Command::Send { handle, letter, register }, at + 4))
+        }
+        0x21 => {
+            let &[handle, letter, a, b, c, d, e, f, g, h, ..] = operands else { return None };
             let mut next = at + 11;
             let blocks = [word(a, b), word(c, d), word(e, f), word(g, h)].map(|length| {
                 let from = next;
@@ -63,17 +68,31 @@ pub fn read(bytes: &[u8], block: Block) -> Option<(Command, usize)> {
             });
             (next <= end).then_some((Command::Ask { handle, letter, blocks }, next))
         }
-        [0x23, register, low, high, ..] => {
+        0x23 => {
+            let &[register, low, high, ..] = operands else { return None };
             let block = Block { at: at + 4, end: at + 4 + word(low, high) };
             (block.end <= end).then_some((Command::Repeat { register, block }, block.end))
         }
-        [0x24, part, a, b, c, d, e, f, g, h, ..] => {
+        0x24 => {
+            let &[part, a, b, c, d, e, f, g, h, ..] = operands else { return None };
             Some((Command::Run { part, bindings: [a, b, c, d, e, f, g, h] }, at + 10))
         }
-        [0x25, register, value, ..] => Some((Command::Set { register, value }, at + 3)),
-        [0x26, register, ..] => Some((Command::Dec { register }, at + 2)),
-        [0x27, low, high, ..] => Some((Command::Cue { number: word(low, high) as u16 }, at + 3)),
-        [0x28, code, ..] => Some((Command::Fail { code }, at + 2)),
+        0x25 => {
+            let &[register, value, ..] = operands else { return None };
+            Some((Command::Set { register, value }, at + 3))
+        }
+        0x26 => {
+            let &[register, ..] = operands else { return None };
+            Some((Command::Dec { register }, at + 2))
+        }
+        0x27 => {
+            let &[low, high, ..] = operands else { return None };
+            Some((Command::Cue { number: word(low, high) as u16 }, at + 3))
+        }
+        0x28 => {
+            let &[code, ..] = operands else { return None };
+            Some((Command::Fail { code }, at + 2))
+        }
         _ => None,
     }
 }
