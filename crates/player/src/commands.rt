@@ -103,7 +103,7 @@ impl<'a> Stage<'a> {
                 self.open.pass(rest);
                 self.open.push(Frame {
                     block: loaded.body(part),
-                    ports: top.handed(bindings),
+                    ports: top.handed(*bindings),
                 });
                 Step::silent(Outcome::Ran(0))
             }

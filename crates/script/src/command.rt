@@ -46,7 +46,7 @@ pub enum Command<'a> {
     },
     Run {
         part: u8,
-        bindings: [u8; HANDLES],
+        bindings: &'a [u8; HANDLES],
     },
     Set {
         register: u8,
@@ -114,6 +114,7 @@ fn read_repeat<'a>(
 
 impl<'a> Block<'a> {
     // Its first command and the rest, unless it is empty.
+    #[inline(always)]
     pub fn first(self) -> Option<Result<(Command<'a>, Block<'a>), Fault>>
         ensures { Begins self.entry result }
     {
@@ -126,6 +127,7 @@ impl<'a> Block<'a> {
 }
 
 // The first command of a block that is not empty, and the rest. Operands are patterns, by a rule of the project.
+#[inline(always)]
 pub(crate) fn read_command<'a>(block: Block<'a>) -> Result<(Command<'a>, Block<'a>), Fault>
     requires { 0 < length (piece block).bytes }
     ensures { Gives block.entry.place result (first (piece block.entry)) }
@@ -168,13 +170,18 @@ pub(crate) fn read_command<'a>(block: Block<'a>) -> Result<(Command<'a>, Block<'
         [REPEAT, register, w0, w1, tail @ ..] => {
             read_repeat(place, *register, word(*w0, *w1), block.behind(tail))
         }
-        [RUN, part, b0, b1, b2, b3, b4, b5, b6, b7, rest @ ..] => Ok((
-            Command::Run {
-                part: *part,
-                bindings: [*b0, *b1, *b2, *b3, *b4, *b5, *b6, *b7],
-            },
-            block.behind(rest),
-        )),
+        [RUN, part, tail @ ..] => {
+            let Some((bindings, rest)) = tail.split_first_chunk::<HANDLES>() else {
+                return Err(LayoutCause::BadCommand.at(place));
+            };
+            Ok((
+                Command::Run {
+                    part: *part,
+                    bindings,
+                },
+                block.behind(rest),
+            ))
+        }
         [SET, register, value, rest @ ..] => Ok((
             Command::Set {
                 register: *register,
