@@ -63,6 +63,7 @@ impl<D: Device> Device for Trail<D> {
         self.below.edge(station, letter, answer)
     }
 
+    #[inline(never)]
     fn station(&self) -> u8 {
         self.below.station()
     }
@@ -71,6 +72,7 @@ impl<D: Device> Device for Trail<D> {
         self.below.heard()
     }
 
+    #[inline(never)]
     fn ask(&mut self, letter: u8) -> u8
         ensures hears { Hears (D.Device.meaning self.old.below) letter result (D.Device.meaning self.new.below) }
         ensures shows { trail_of self.new ≡ last 32 (trail_of self.old ++ (record { letter = letter; answer = result } ∷ [])) }

@@ -6,7 +6,7 @@ use Rattle.device.specs.Ports.{Ports, RigHears}
 use Rattle.rules.specs.Script.{Block, Command}
 use Rattle.machine.specs.declared.report.Outcome.{Outcome}
 use Rattle.machine.specs.Dialogue.{Plays, done, ended, entry_in, tells, told}
-use Rattle.machine.specs.Player.{Frame, Player}
+use Rattle.machine.specs.Player.{Player}
 use Rattle.player.specs.Runs.{runs}
 
 abbrev pub Ending : Type 0
@@ -29,6 +29,6 @@ spoken k i j l {g} {g'} e x s port heard is sent same =
     (subst₂ (λ (z : Ending) (r : Option Entry). Plays (tells i l (λ a. done (k i a))) g (option_to_list r) g' z) (sym same) (sym sent) (heard_one (k i) i l e heard is))
 
 -- of a command that goes by two names
-pub by_name : (p : Player) (f : Frame) (rest : Block) {c d : Command} {g : Ports} {es : List Entry} {g' : Ports} {x : Ending} → c ≡ d →
-    Plays (runs p f rest d) g es g' x → Plays (runs p f rest c) g es g' x
-by_name p f rest {g = g} {es = es} {g' = g'} {x = x} same h = subst (λ (c : Command). Plays (runs p f rest c) g es g' x) (sym same) h
+pub by_name : (p : Player) (place : ℕ) (ports : List ℕ) (rest : Block) {c d : Command} {g : Ports} {es : List Entry} {g' : Ports} {x : Ending} → c ≡ d →
+    Plays (runs p place ports rest d) g es g' x → Plays (runs p place ports rest c) g es g' x
+by_name p place ports rest {g = g} {es = es} {g' = g'} {x = x} same h = subst (λ (c : Command). Plays (runs p place ports rest c) g es g' x) (sym same) h

@@ -59,11 +59,11 @@ module _ (p : Player) (f : Frame) where
         (ap (run_first p d fs) (subst (λ (v : Frame). first v.block ≡ command c rest) same e))
 
     module _ (so : ScriptSo p.script) (top : Some f ≡ slice_get p.frames 0) (begins : first f.block ≡ command c rest) (room : ∥ Open p.script p.frames ∥₁) where
-      pub runs_few : Always Few (runs p f rest c)
-      runs_few = ∥∥₁_elim room (always_prop Few (λ v. le_prop) (runs p f rest c))
-          (λ o. always_map (Kept p.script) Few (λ v k. open_few p.script v.1.frames so k.1) (runs p f rest c) (opens_from p.frames so top begins o))
+      pub runs_few : Always Few (runs p f.block.place f.ports rest c)
+      runs_few = ∥∥₁_elim room (always_prop Few (λ v. le_prop) (runs p f.block.place f.ports rest c))
+          (λ o. always_map (Kept p.script) Few (λ v k. open_few p.script v.1.frames so k.1) (runs p f.block.place f.ports rest c) (opens_from p.frames so top begins o))
 
-      module _ {g : Ports} {es : List Entry} {g' : Ports} {x : Ending} (h : Plays (runs p f rest c) g es g' x) where
+      module _ {g : Ports} {es : List Entry} {g' : Ports} {x : Ending} (h : Plays (runs p f.block.place f.ports rest c) g es g' x) where
         pub runs_room : ∥ Open p.script x.1.frames ∥₁
         runs_room = ∥∥₁_map room (λ o. (comes (Kept p.script) (opens_from p.frames so top begins o) h).1)
 

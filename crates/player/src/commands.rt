@@ -8,7 +8,6 @@ ghost use Rattle.machine.specs.Steps.{step};
 ghost use Rattle.machine.proofs.Open.{Always};
 ghost use Rattle.script.specs.Commands.{said};
 ghost use Rattle.script.specs.Pieces.{piece};
-ghost use Rattle.player.specs.Frames.{frame_of};
 ghost use Rattle.player.specs.Loaded.{held};
 ghost use Rattle.player.specs.Room.{Room};
 ghost use Rattle.player.specs.Runs.{runs};
@@ -16,6 +15,7 @@ ghost use Rattle.player.specs.Seen.{seen};
 
 use crate::loaded::Loaded;
 use crate::open_blocks::Frame;
+use crate::ports::{handed, port_of};
 use crate::stage::Stage;
 use device::Rig;
 use machine::Outcome;
@@ -54,18 +54,19 @@ impl Step {
 
 impl<'a> Stage<'a> {
     // The command with which the topmost block begins, and what is left of the block behind it.
+    #[inline(always)]
     fn run<R: Rig>(
         &mut self,
         loaded: &Loaded<'a>,
         rig: &mut R,
-        top: Frame<'a>,
+        place: u16,
+        ports: [u8; 8],
         command: Command<'a>,
         rest: Block<'a>,
     ) -> Step
-        requires few { Always (λ v. length v.1.frames ≤ 128) (runs (seen (held loaded.now) self.old) (frame_of top) (piece rest) (said command)) }
-        ensures { Plays (runs (seen (held loaded.now) self.old) (frame_of top.entry) (piece rest.entry) (said command.entry)) (R.Rig.ports rig.old) (option_to_list result.sent) (R.Rig.ports rig.new) (result.outcome, seen (held loaded.now) self.new) }
+        requires few { Always (λ v. length v.1.frames ≤ 128) (runs (seen (held loaded.now) self.old) place ports (piece rest) (said command)) }
+        ensures { Plays (runs (seen (held loaded.now) self.old) place ports (piece rest.entry) (said command.entry)) (R.Rig.ports rig.old) (option_to_list result.sent) (R.Rig.ports rig.new) (result.outcome, seen (held loaded.now) self.new) }
     {
-        let ports = top.ports;
         match command {
             Command::Send {
                 handle,
@@ -73,7 +74,7 @@ impl<'a> Stage<'a> {
                 register,
             } => {
                 self.open.pass(rest);
-                let entry = self.tell(loaded, rig, top.port(handle), letter);
+                let entry = self.tell(loaded, rig, port_of(&ports, handle), letter);
                 self.set_register(register, entry.answer);
                 Step::told(entry)
             }
@@ -83,7 +84,7 @@ impl<'a> Stage<'a> {
                 blocks,
             } => {
                 self.open.pass(rest);
-                let entry = self.tell(loaded, rig, top.port(handle), letter);
+                let entry = self.tell(loaded, rig, port_of(&ports, handle), letter);
                 self.open.push(Frame {
                     block: blocks.block(entry.answer),
                     ports,
@@ -103,7 +104,7 @@ impl<'a> Stage<'a> {
                 self.open.pass(rest);
                 self.open.push(Frame {
                     block: loaded.body(part),
-                    ports: top.handed(*bindings),
+                    ports: handed(&ports, bindings),
                 });
                 Step::silent(Outcome::Ran(0))
             }
@@ -123,10 +124,7 @@ impl<'a> Stage<'a> {
             }
             Command::Fail { code } => {
                 self.open.pass(rest);
-                Step::silent(Outcome::Faulted {
-                    code,
-                    place: top.block.place,
-                })
+                Step::silent(Outcome::Faulted { code, place })
             }
         }
     }
@@ -157,6 +155,13 @@ impl<'a> Stage<'a> {
         let Ok((command, rest)) = first else {
             return self.stuck();
         };
-        self.run(loaded, rig, top, command, rest)
+        self.run(
+            loaded,
+            rig,
+            top.block.place as u16,
+            top.ports,
+            command,
+            rest,
+        )
     }
 }

@@ -9,6 +9,7 @@ mod loaded;
 mod open_blocks;
 mod performance;
 mod player;
+mod ports;
 mod stage;
 mod telling;
 #[cfg(test)]

@@ -115,28 +115,3 @@ impl<'a> OpenBlocks<Frame<'a>> {
         }
     }
 }
-
-impl Frame<'_> {
-    ghost use Rattle.std.specs.Prelude.{get_or, map, slice_index};
-
-    // The port of a handle; 0 past the eighth, which no passed script has.
-    pub(crate) fn port(&self, handle: u8) -> u8
-        ensures { result ≡ slice_index self.now.ports handle }
-    {
-        self.ports.get(handle as usize).copied().unwrap_or_default()
-    }
-
-    // The port to which a part's handle is bound that a RUN binds to this one; 255 past the eighth.
-    fn bound(&self, handle: u8) -> u8
-        ensures { result ≡ get_or self.now.ports handle 255 }
-    {
-        self.ports.get(handle as usize).copied().unwrap_or(255)
-    }
-
-    // The ports of a part's handles, by the handles to which a RUN binds them.
-    pub(crate) fn handed(&self, bindings: [u8; 8]) -> [u8; 8]
-        ensures { result ≡ map (λ b. get_or self.now.ports b 255) bindings }
-    {
-        bindings.map(|handle| self.bound(handle))
-    }
-}

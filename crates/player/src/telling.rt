@@ -13,6 +13,7 @@ use protocol::{Entry, JAMMED};
 
 impl<'a> Stage<'a> {
     // The log shows the station that the device shows; what is kept is where the port's table leads.
+    #[inline(always)]
     pub(crate) fn tell<R: Rig>(
         &mut self,
         loaded: &Loaded<'a>,

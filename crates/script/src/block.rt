@@ -4,8 +4,8 @@ ghost use Rattle.std.specs.Prelude.{◌≡◌, ◌+◌, ◌≤◌, length};
 #[derive(Clone, Copy)]
 pub struct Block<'a> {
     pub bytes: &'a [u8],
-    // of its first byte, from the start of the script
-    pub place: u16,
+    // of its first byte, from the start of the script; as wide as a length, since bytes that pad a struct cost a copy wherever it goes
+    pub place: usize,
     // It lies within a script of the greatest length.
     ghost within: { place + length bytes.now ≤ 16384 },
 }
@@ -32,7 +32,7 @@ impl<'a> Block<'a> {
     {
         Block {
             bytes: rest,
-            place: self.place + (self.bytes.len() - rest.len()) as u16,
+            place: self.place + (self.bytes.len() - rest.len()),
         }
     }
 
@@ -50,7 +50,7 @@ impl<'a> Block<'a> {
             },
             Block {
                 bytes: rest,
-                place: self.place + len,
+                place: self.place + len as usize,
             },
         )
     }

@@ -7,9 +7,9 @@ use crate::block::Block;
 
 #[derive(Clone, Copy)]
 pub struct Blocks<'a> {
-    pub lengths: ByAnswer<u16>,
-    // all of them, one behind the other
+    // all of them, one behind the other; first, so that it lies in an ASK where a block lies in a REPEAT
     pub whole: Block<'a>,
+    pub lengths: ByAnswer<u16>,
     ghost exact: { total lengths ≡ length whole.bytes.now },
 }
 

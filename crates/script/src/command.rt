@@ -132,7 +132,7 @@ pub(crate) fn read_command<'a>(block: Block<'a>) -> Result<(Command<'a>, Block<'
     requires { 0 < length (piece block).bytes }
     ensures { Gives block.entry.place result (first (piece block.entry)) }
 {
-    let place = block.place;
+    let place = block.place as u16;
     match block.bytes {
         [SEND, handle, letter, register, rest @ ..] => Ok((
             Command::Send {

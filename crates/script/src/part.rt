@@ -97,10 +97,10 @@ impl Part {
         requires short { length bytes.now ≤ 16384 }
         ensures { piece result ≡ (shown bytes.now self.now).body }
     {
-        let place = self.place + HEADER;
-        let end = place + self.len;
+        let place = (self.place + HEADER) as usize;
+        let end = place + self.len as usize;
         Block {
-            bytes: &bytes[place as usize..end as usize],
+            bytes: &bytes[place..end],
             place,
         }
     }

@@ -142,7 +142,7 @@ impl Level<'_> {
         let mut keys = start;
         while !rest.bytes.is_empty() {
             let (command, after) = read_command(rest)?;
-            keys = self.check_command(rest.place, command, keys)?;
+            keys = self.check_command(rest.place as u16, command, keys)?;
             rest = after;
         }
         Ok(keys)

@@ -60,6 +60,7 @@ impl<D: Device> Device for Patch<D> {
         self.below.edge(station, below, answer)
     }
 
+    #[inline(never)]
     fn station(&self) -> u8 {
         if self.stuck {
             JAMMED
@@ -72,6 +73,7 @@ impl<D: Device> Device for Patch<D> {
         self.tally.heard()
     }
 
+    #[inline(never)]
     fn ask(&mut self, letter: u8) -> u8
         ensures hears { Hears (patch_meaning D.Device.meaning self.old) letter result (patch_meaning D.Device.meaning self.new) }
         ensures map { self.new.map ≡ self.old.map }
