@@ -1,4 +1,5 @@
 pub mod Acting
+pub mod Blanks
 pub mod Pairs
 pub mod Mounting
 pub mod Somes
