@@ -68,7 +68,7 @@ pub(crate) fn spaced_bytes(heap: Global, text: &[u8]) -> Result<Option<Vec<u8>>,
     let mut bytes = Vec::with_capacity(heap, text.len() / 2)?;
     let mut rest = text;
     loop {
-        // Mostly the digits stand side by side, and two pairs at once are faster.
+        // digits mostly stand side by side, and two pairs at once are faster
         if let [a, b, c, d, after @ ..] = rest
             && let Some(first) = hex_byte(*a, *b)
             && let Some(second) = hex_byte(*c, *d)
