@@ -1,5 +1,7 @@
 pub mod Acting
+pub mod Blanks
 pub mod Pairs
 pub mod Mounting
+pub mod Rows
 pub mod Somes
 pub mod Turns

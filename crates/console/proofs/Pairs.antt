@@ -1,55 +1,46 @@
--- What the crate `hex` makes of pairs of digits is what `hex_bytes` says.
-use Rattle.std.proofs.Common.{◌≡◌, ℕ, ◌==◌, Bool, true, false, cond, MatchResult, ◌+◌, ◌*◌, ◌/◌, ◌%◌, List, [], ◌∷◌, length, Some, None, Option, Ok, Err, Result, refl, sym, ap, ◌∙◌, arith}
-use Rattle.std.proofs.lemmas.Bool.{eq-eqb, eqb-true}
-use Rattle.std.specs.Option.{option_map}
-use Rattle.std.specs.Result.{result_ok}
-use Rattle.hex.specs.Hex.{decode_pairs, decode_sized, digit_or_error, hex_digit_value, pair_value, ◌>>=◌}
-use Rattle.hex.specs.declared.error.FromHexError.{FromHexError}
-use Rattle.hex.specs.declared.error.FromHexError.TheVariants.{InvalidStringLength, OddLength}
+-- Pairs of digits, read from the left.
+use Rattle.std.proofs.Common.{◌≡◌, ℕ, true, ◌≤◌, ◌-◌, List, [], ◌∷◌, ◌++◌, length, take, drop, get_or, Some, None, Option, refl, sym, ap, ◌∙◌, append_assoc, arith}
+use Rattle.std.proofs.lemmas.Bool.{cond-true}
+use Rattle.std.proofs.lemmas.List.{take_rest}
 use Rattle.console.specs.Hex.{byte_of, hex_byte, hex_bytes, hex_value, onto}
+use Rattle.console.specs.Words.{in_word, no_blanks}
+use Rattle.console.proofs.Somes.{behind}
 
-same_digit : (c : ℕ) → hex_digit_value c ≡ hex_value c
-same_digit c = grind (arith)
+behind_push : (bs : List ℕ) (b : ℕ) (o : Option (List ℕ)) → behind bs (onto (Some b) o) ≡ behind (bs ++ b ∷ []) o
+behind_push bs b None = refl
+behind_push bs b (Some cs) = ap Some (sym (append_assoc bs (b ∷ []) cs))
 
-both : (c d i : ℕ) (high low : Option ℕ) → result_ok (digit_or_error c i high >>= (λ h. digit_or_error d (i + 1) low >>= (λ l. Ok (h * 16 + l)))) ≡ byte_of high low
-both c d i None low = refl
-both c d i (Some h) None = refl
-both c d i (Some h) (Some l) = let sum : h * 16 + l ≡ 16 * h + l = omega arith in ap Some sum
+-- a pair is a byte more
+pub one_more : (bs : List ℕ) (c d b : ℕ) (cs : List ℕ) → Some b ≡ hex_byte c d → behind bs (hex_bytes (c ∷ d ∷ cs)) ≡ behind (bs ++ b ∷ []) (hex_bytes cs)
+one_more bs c d b cs pair = ap (λ x. behind bs (onto x (hex_bytes cs))) (sym pair) ∙ behind_push bs b (hex_bytes cs)
 
-same_byte : (c d i : ℕ) → result_ok (pair_value c d i) ≡ hex_byte c d
-same_byte c d i = both c d i (hex_digit_value c) (hex_digit_value d) ∙ rw (same_digit c, same_digit d)
+pub pair_more : (bs s : List ℕ) (b : ℕ) → 2 ≤ length s → Some b ≡ hex_byte (get_or s 0 0) (get_or s 1 0) → behind bs (hex_bytes s) ≡ behind (bs ++ b ∷ []) (hex_bytes (take (length s - 2) (drop 2 s)))
+pair_more bs [] b long pair = absurd (omega arith)
+pair_more bs (c ∷ []) b long pair = absurd (omega arith)
+pair_more bs (c ∷ d ∷ cs) b long pair = one_more bs c d b cs pair ∙ ap (λ ds. behind (bs ++ b ∷ []) (hex_bytes ds)) (sym (take_rest (c ∷ d ∷ cs) 2))
 
-joined : (b : Result ℕ FromHexError) (bs : Result (List ℕ) FromHexError) → result_ok (b >>= (λ x. bs >>= (λ xs. Ok (x ∷ xs)))) ≡ onto (result_ok b) (result_ok bs)
-joined (Ok x) (Ok xs) = refl
-joined (Ok x) (Err e) = refl
-joined (Err e) bs = refl
+digit_in_word : (c h : ℕ) → hex_value c ≡ Some h → in_word c ≡ true
+digit_in_word c h digit = grind arith
 
-same_pairs : (i : ℕ) (cs : List ℕ) → result_ok (decode_pairs i cs) ≡ hex_bytes cs
-unfolding decode_pairs
-same_pairs i [] = refl
-same_pairs i (c ∷ []) = refl
-same_pairs i (c ∷ d ∷ cs) =
-    joined (pair_value c d i) (decode_pairs (i + 2) cs) ∙ ap (λ b. onto b (result_ok (decode_pairs (i + 2) cs))) (same_byte c d i) ∙ ap (onto (hex_byte c d)) (same_pairs (i + 2) cs)
+in_front : (c h : ℕ) (cs : List ℕ) → hex_value c ≡ Some h → no_blanks (c ∷ cs) ≡ c ∷ no_blanks cs
+in_front c h cs digit = cond-true (in_word c) (c ∷ no_blanks cs) (no_blanks cs) (digit_in_word c h digit)
 
-none_before : (b : Option ℕ) → onto b None ≡ None
-none_before None = refl
-none_before (Some b) = refl
+by_values : (c d b : ℕ) (cs : List ℕ) (high low : Option ℕ) → hex_value c ≡ high → hex_value d ≡ low → Some b ≡ byte_of high low → no_blanks (c ∷ d ∷ cs) ≡ c ∷ d ∷ no_blanks cs
+by_values c d b cs None low first second pair = cc
+by_values c d b cs (Some h) None first second pair = cc
+by_values c d b cs (Some h) (Some l) first second pair = in_front c h (d ∷ cs) first ∙ ap (λ ds. c ∷ ds) (in_front d l cs second)
 
-odd : (cs : List ℕ) → length cs % 2 ≡ 1 → hex_bytes cs ≡ None
-odd [] one = absurd (omega arith)
-odd (c ∷ []) one = refl
-odd (c ∷ d ∷ cs) one = ap (onto (hex_byte c d)) (odd cs (omega arith)) ∙ none_before (hex_byte c d)
+-- a pair side by side is a byte more
+side_by_side : (bs : List ℕ) (c d b : ℕ) (cs : List ℕ) → Some b ≡ hex_byte c d → behind bs (hex_bytes (no_blanks (c ∷ d ∷ cs))) ≡ behind (bs ++ b ∷ []) (hex_bytes (no_blanks cs))
+side_by_side bs c d b cs pair = ap (λ ds. behind bs (hex_bytes ds)) (by_values c d b cs (hex_value c) (hex_value d) refl refl pair) ∙ one_more bs c d b (no_blanks cs) pair
 
-by_length : (cs : List ℕ) (odd_one even_fits : Bool) → (odd_one ≡ true → length cs % 2 ≡ 1) → even_fits ≡ true → result_ok (cond odd_one (Err OddLength) (cond even_fits (decode_pairs 0 cs) (Err InvalidStringLength))) ≡ hex_bytes cs
-by_length cs true fits one room = sym (odd cs (one refl))
-by_length cs false true one room = same_pairs 0 cs
-by_length cs false false one room = cc
-
-told : (out : List ℕ) (r : Result (Unit {0}) FromHexError) (d : Result (List ℕ) FromHexError) → MatchResult d (λ bs. (r ≡ Ok tt) × (out ≡ bs)) (λ e. r ≡ Err e) → option_map (λ u. out) (result_ok r) ≡ result_ok d
-told out r (Ok bs) m = ap (λ x. option_map (λ u. out) (result_ok x)) m.0 ∙ ap Some m.1
-told out r (Err e) m = ap (λ x. option_map (λ u. out) (result_ok x)) m
-
--- what decoding into room for half as many bytes answers, and what it then wrote
-pub decoded : (cs out : List ℕ) (n : ℕ) (r : Result (Unit {0}) FromHexError) → n ≡ length cs / 2 → MatchResult (decode_sized cs n) (λ bs. (r ≡ Ok tt) × (out ≡ bs)) (λ e. r ≡ Err e) → option_map (λ u. out) (result_ok r) ≡ hex_bytes cs
-decoded cs out n r half m =
-    told out r (decode_sized cs n) m ∙ by_length cs (length cs % 2 == 1) (length cs / 2 == n) (eqb-true (length cs % 2) 1) (eq-eqb (length cs / 2) n (sym half))
+-- and two of them are two
+pub two_more : (bs s : List ℕ) (x y : ℕ) → 4 ≤ length s → Some x ≡ hex_byte (get_or s 0 0) (get_or s 1 0) → Some y ≡ hex_byte (get_or s 2 0) (get_or s 3 0) →
+    behind bs (hex_bytes (no_blanks s)) ≡ behind ((bs ++ x ∷ []) ++ y ∷ []) (hex_bytes (no_blanks (take (length s - 4) (drop 4 s))))
+two_more bs (a ∷ b ∷ c ∷ d ∷ cs) x y long first second =
+    side_by_side bs a b x (c ∷ d ∷ cs) first ∙ side_by_side (bs ++ x ∷ []) c d y cs second
+    ∙ ap (λ ds. behind ((bs ++ x ∷ []) ++ y ∷ []) (hex_bytes (no_blanks ds))) (sym (take_rest (a ∷ b ∷ c ∷ d ∷ cs) 4))
+two_more bs [] x y long first second = absurd (omega arith)
+two_more bs (a ∷ []) x y long first second = absurd (omega arith)
+two_more bs (a ∷ b ∷ []) x y long first second = absurd (omega arith)
+two_more bs (a ∷ b ∷ c ∷ []) x y long first second = absurd (omega arith)

@@ -1,37 +1,93 @@
 // Bytes written as hexadecimal digits.
 ghost use Rattle.std.specs.Prelude.{◌≡◌, IfOk, vec_items};
 ghost use Rattle.std.specs.Option.{option_map};
-ghost use Rattle.console.specs.Hex.{hex_bytes};
+ghost use Rattle.console.specs.Hex.{hex_byte, hex_bytes, hex_value};
 ghost use Rattle.console.specs.Words.{no_blanks};
 
-use crate::words::is_blank;
-use hex::decode_to_slice;
+use crate::words::split_byte;
 use std::alloc::{AllocError, Global};
+
+macro_rules! values {
+    (@one _) => { None };
+    (@one $value:literal) => { Some($value) };
+    ($($each:tt)*) => { [$(values!(@one $each)),*] };
+}
+
+// The value of each byte as a digit. Whether a figure or a letter comes next cannot be foreseen, so tests would be slower.
+static VALUES: [Option<u8>; 256] = values! {
+    _ _ _ _ _ _ _ _ _ _ _ _ _ _ _ _
+    _ _ _ _ _ _ _ _ _ _ _ _ _ _ _ _
+    _ _ _ _ _ _ _ _ _ _ _ _ _ _ _ _
+    0 1 2 3 4 5 6 7 8 9 _ _ _ _ _ _
+    _ 10 11 12 13 14 15 _ _ _ _ _ _ _ _ _
+    _ _ _ _ _ _ _ _ _ _ _ _ _ _ _ _
+    _ 10 11 12 13 14 15 _ _ _ _ _ _ _ _ _
+    _ _ _ _ _ _ _ _ _ _ _ _ _ _ _ _
+    _ _ _ _ _ _ _ _ _ _ _ _ _ _ _ _
+    _ _ _ _ _ _ _ _ _ _ _ _ _ _ _ _
+    _ _ _ _ _ _ _ _ _ _ _ _ _ _ _ _
+    _ _ _ _ _ _ _ _ _ _ _ _ _ _ _ _
+    _ _ _ _ _ _ _ _ _ _ _ _ _ _ _ _
+    _ _ _ _ _ _ _ _ _ _ _ _ _ _ _ _
+    _ _ _ _ _ _ _ _ _ _ _ _ _ _ _ _
+    _ _ _ _ _ _ _ _ _ _ _ _ _ _ _ _
+};
+
+fn hex_value(byte: u8) -> Option<u8>
+    ensures { result ≡ hex_value byte }
+{
+    VALUES[byte as usize]
+}
+
+fn hex_byte(high: u8, low: u8) -> Option<u8>
+    ensures { result ≡ hex_byte high low }
+{
+    Some(16 * hex_value(high)? + hex_value(low)?)
+}
 
 // The bytes that pairs of digits spell, or None.
 pub(crate) fn hex_bytes(heap: Global, digits: &[u8]) -> Result<Option<Vec<u8>>, AllocError>
     ensures { IfOk result (λ o. option_map vec_items o ≡ hex_bytes digits.now) }
 {
-    let mut bytes = vec![in heap; 0; digits.len() / 2]?;
-    match decode_to_slice(digits, bytes.as_mut_slice()) {
-        Ok(()) => Ok(Some(bytes)),
-        Err(_) => Ok(None),
+    let mut bytes = Vec::with_capacity(heap, digits.len() / 2)?;
+    let mut rest = digits;
+    while let [high, low, after @ ..] = rest {
+        let Some(byte) = hex_byte(*high, *low) else {
+            return Ok(None);
+        };
+        bytes.push_reserved(byte);
+        rest = after;
     }
+    Ok(if rest.is_empty() { Some(bytes) } else { None })
 }
 
 // As `hex_bytes`, and blanks may stand anywhere.
 pub(crate) fn spaced_bytes(heap: Global, text: &[u8]) -> Result<Option<Vec<u8>>, AllocError>
     ensures { IfOk result (λ o. option_map vec_items o ≡ hex_bytes (no_blanks text.now)) }
 {
-    let digits = without_blanks(heap, text)?;
-    hex_bytes(heap, &digits)
-}
-
-fn without_blanks(heap: Global, text: &[u8]) -> Result<Vec<u8>, AllocError>
-    ensures { IfOk result (λ v. v.items ≡ no_blanks text.now) }
-{
-    text.iter()
-        .copied()
-        .filter(|byte| !is_blank(*byte))
-        .collect(heap)
+    let mut bytes = Vec::with_capacity(heap, text.len() / 2)?;
+    let mut rest = text;
+    loop {
+        // digits mostly stand side by side, and two pairs at once are faster
+        if let [a, b, c, d, after @ ..] = rest
+            && let Some(first) = hex_byte(*a, *b)
+            && let Some(second) = hex_byte(*c, *d)
+        {
+            bytes.push_reserved(first);
+            bytes.push_reserved(second);
+            rest = after;
+            continue;
+        }
+        let Some((high, after)) = split_byte(rest) else {
+            return Ok(Some(bytes));
+        };
+        let Some((low, after)) = split_byte(after) else {
+            return Ok(None);
+        };
+        let Some(byte) = hex_byte(high, low) else {
+            return Ok(None);
+        };
+        bytes.push_reserved(byte);
+        rest = after;
+    }
 }

@@ -1,6 +1,6 @@
 // Blanks and words of a line.
-ghost use Rattle.std.specs.Prelude.{◌≡◌};
-ghost use Rattle.console.specs.Words.{after_blanks, after_word, first_word, is_blank};
+ghost use Rattle.std.specs.Prelude.{◌≡◌, ◌<◌, [], ◌∷◌, length, IfSome, MatchOption};
+ghost use Rattle.console.specs.Words.{after_blanks, after_word, first_word, is_blank, no_blanks};
 
 // The first byte of a line that asks for nothing.
 pub(crate) const REMARK: u8 = b'#';
@@ -17,6 +17,17 @@ pub(crate) fn skip_blanks(line: &[u8]) -> &[u8]
 {
     let blanks = line.iter().take_while(|byte| is_blank(**byte)).count();
     &line[blanks..]
+}
+
+// The first byte that is no blank, and the line after it.
+pub(crate) fn split_byte(line: &[u8]) -> Option<(u8, &[u8])>
+    ensures split { MatchOption result (no_blanks line.now ≡ []) (λ p. no_blanks line.now ≡ p.0 ∷ no_blanks p.1.now) }
+    ensures shorter { IfSome result (λ p. length p.1.now < length line.now) }
+{
+    match skip_blanks(line) {
+        [] => None,
+        [byte, rest @ ..] => Some((*byte, rest)),
+    }
 }
 
 // The line before and from its first blank.

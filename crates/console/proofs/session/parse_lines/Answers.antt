@@ -1,11 +1,14 @@
-use Rattle.std.proofs.Common.{rules, tests, ◌==◌, map, ap, ◌∙◌}
-use Rattle.std.proofs.lemmas.Iterator.Consumers.{YieldsList-end}
-use Rattle.std.proofs.lemmas.Iterator.Splits.{YieldsList-from_slice_split}
-use Rattle.console.specs.Lines.{line_of}
+use Rattle.std.proofs.Common.{[], vec_items, sym, ◌∙◌, append-nil}
+use Rattle.console.specs.Views.{view}
+use Rattle.console.proofs.Rows.{first_row, last_row, row_more}
 use Rattle.console.proofs.session.parse_lines.Goals as goal
+
+pub loop-end-preserved : goal.loop-end-preserved
+loop-end-preserved c =
+    let step = first_row c.loop-end.rest.now c.split_at.result.0.now c.split_at.result.1.now c.in-Some.end c.in-Some.ensures c.split_at.ensures.front c.split_at.ensures.back in
+    row_more view (vec_items c.loop-end.lines) (vec_items c.push.new.self) c.in_ok-parse_line.field-0 c.split_at.result.0.now _ _ _ c.loop-end.invariant step c.in_ok-parse_line.ensures c.in_ok-push.ensures.items
 
 pub returns : goal.returns
 returns c =
-    let road = YieldsList-from_slice_split _ (λ b. b == 10) c.args.input.now (cc) (cc) (cc) (λ x b q k. search (rules, tests)) in
-    let all = YieldsList-end road c.loop-row.yielded _ c.loop-row.yielded_by _ _ c.in-None.is c.next.ensures.steps in
-    c.loop-row.invariant ∙ ap (map line_of) all.0
+    let whole = row_more view (vec_items c.loop-end.lines) (vec_items c.push-2.new.self) c.in_ok-parse_line-2.field-0 c.loop-end.rest.now _ _ [] c.loop-end.invariant (last_row c.loop-end.rest.now c.in_default.ensures) c.in_ok-parse_line-2.ensures c.in_ok-push-2.ensures.items in
+    sym (append-nil _) ∙ sym whole
