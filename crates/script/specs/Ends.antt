@@ -1,12 +1,6 @@
--- By answer: stations that are declared, blocks that must be empty, and what values have in common.
+-- Blocks that must be empty, and what values have in common.
 use Rattle.std.specs.Prelude.{ℕ, Bool, cond, ◌||◌, List, [], ◌∷◌, is_some, Some, None, Option, ◌==◌}
 use Rattle.std.specs.List.{list_all, zip}
-
--- those that there are
-abbrev pub somes : {X : Type 0} → List (Option X) → List X
-somes [] = []
-somes (None ∷ xs) = somes xs
-somes (Some x ∷ xs) = x ∷ somes xs
 
 -- each answer is declared, or its block has no bytes
 abbrev pub all_spare : List (Option ℕ) → List ℕ → Bool

@@ -1,10 +1,10 @@
 // Where the answers to a letter lead, and what values have in common.
 ghost use Rattle.std.specs.Prelude.{◌≡◌, is_some};
 ghost use Rattle.std.specs.List.{list_any};
-ghost use Rattle.script.specs.Ends.{all_spare, common_by, somes};
+ghost use Rattle.rules.specs.Check.{agreed, agrees};
+ghost use Rattle.script.specs.Ends.{all_spare, common_by};
 
-use crate::answers::{ANSWERS, ByAnswer};
-use arrayvec::ArrayVec;
+use crate::answers::ByAnswer;
 
 // By answer, the station to which it leads, if it is declared.
 pub type Successors = ByAnswer<Option<u8>>;
@@ -15,17 +15,27 @@ pub(crate) fn some_declared(to: &Successors) -> bool
     to.iter().any(|to| to.is_some())
 }
 
-// The stations to which the declared answers lead.
-pub(crate) fn declared(to: &Successors) -> ArrayVec<u8, ANSWERS>
-    ensures { result.items ≡ somes to.now }
+fn agrees(station: u8, to: Option<u8>) -> bool
+    ensures { result ≡ agrees station to }
 {
-    let mut stations = ArrayVec::new();
-    for to in to {
-        if let Some(station) = to {
-            stations.push(*station);
-        }
+    match to {
+        Some(other) => other == station,
+        None => true,
     }
-    stations
+}
+
+// The one station to which all the declared answers lead, if there are any.
+pub(crate) fn agreed(to: &[Option<u8>]) -> Option<u8>
+    ensures { result ≡ agreed to.now }
+{
+    match to {
+        [Some(station), rest @ ..] => {
+            let same = rest.iter().all(|to| agrees(*station, *to));
+            same.then_some(*station)
+        }
+        [None, rest @ ..] => agreed(rest),
+        [] => None,
+    }
 }
 
 // The block of an answer that is not declared is empty.

@@ -14,7 +14,7 @@ use crate::command::{Command, read_command};
 use crate::keys::{Keys, at, moved};
 use crate::level::Level;
 use crate::scope::Scope;
-use crate::successors::{Successors, common, declared, some_declared, undeclared_empty};
+use crate::successors::{Successors, agreed, common, some_declared, undeclared_empty};
 use arrayvec::ArrayVec;
 use faults::{Fault, KeyCause, Layer, LayoutCause};
 
@@ -36,7 +36,7 @@ impl Scope<'_> {
         ensures { result ≡ send_keys (scope_of self.now) place handle letter keys }
     {
         let to = self.allowed(place, handle, letter, keys)?;
-        let station = common(&declared(&to)).ok_or(KeyCause::AnswersDiffer.at(place))?;
+        let station = agreed(&to).ok_or(KeyCause::AnswersDiffer.at(place))?;
         Ok(moved(keys, handle, station))
     }
 }
