@@ -1,5 +1,6 @@
 pub mod Acting
 pub mod Pairs
 pub mod Mounting
+pub mod Newlines
 pub mod Somes
 pub mod Turns

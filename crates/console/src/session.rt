@@ -11,6 +11,7 @@ use crate::answer::Answer;
 use crate::desk::Desk;
 use crate::line::{Line, parse_line};
 use crate::reply::Reply;
+use memchr::memchr;
 use protocol::Entry;
 use std::alloc::{AllocError, Global};
 
@@ -26,9 +27,13 @@ fn parse_lines(heap: Global, input: &[u8]) -> Result<Vec<Line>, AllocError>
     ensures { IfOk result (λ v. map view v.items ≡ lines_of input.now) }
 {
     let mut lines = Vec::new(heap);
-    for row in input.split(|byte| *byte == b'\n') {
-        lines.push(parse_line(heap, row)?)?;
+    let mut rest = input;
+    while let Some(end) = memchr(b'\n', rest) {
+        let (line, after) = rest.split_at(end);
+        lines.push(parse_line(heap, line)?)?;
+        rest = &after[1..];
     }
+    lines.push(parse_line(heap, rest)?)?;
     Ok(lines)
 }
 

@@ -1,7 +1,10 @@
-use Rattle.std.proofs.Common.{◌≡◌, map, vec_items}
-use Rattle.console.specs.Lines.{line_of}
+use Rattle.std.proofs.Common.{◌≡◌, ◌++◌, map, vec_items, length}
+use Rattle.console.specs.Lines.{lines_of}
 use Rattle.console.specs.Views.{view}
 use Rattle.console.proofs.session.parse_lines.Given as goal
 
-abbrev pub invariant-loop-row : goal.invariant-loop-row
-invariant-loop-row l = map view (vec_items l.lines) ≡ map line_of (map (λ row. row.now) l.yielded)
+abbrev pub invariant-loop-end : goal.invariant-loop-end
+invariant-loop-end l = map view (vec_items l.lines) ++ lines_of l.rest ≡ lines_of l.input
+
+abbrev pub decreases-loop-end : goal.decreases-loop-end
+decreases-loop-end l = length l.rest
