@@ -1,4 +1,5 @@
 pub mod Acting
+pub mod Decimals
 pub mod Pairs
 pub mod Mounting
 pub mod Newlines
