@@ -1,5 +1,6 @@
 pub mod Acting
 pub mod Blanks
+pub mod Decimals
 pub mod Pairs
 pub mod Mounting
 pub mod Rows

@@ -12,6 +12,7 @@ use crate::answer::Answer;
 use crate::line::{Command, Line, NotUnderstood};
 use crate::nest::Nest;
 use crate::plan::{Plan, build_all};
+use crate::stage::MOST_ROOM;
 use book::Book;
 use device::{Rig, Row};
 use faults::Fault;
@@ -31,7 +32,7 @@ pub struct Desk<'a> {
 }
 
 // The longest log of a call.
-const ROOM: usize = 4096;
+const ROOM: usize = MOST_ROOM as usize;
 
 const BLANK: Entry = Entry {
     port: 0,

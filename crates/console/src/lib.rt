@@ -26,6 +26,6 @@ pub use layered::Layered;
 pub use line::{Command, Line, NotUnderstood, parse_line};
 pub use plan::Plan;
 pub use ports::{PortLine, port_lines};
-pub use reply::Reply;
+pub use reply::write_reply;
 pub use session::transcript;
 pub use stage::{StageCommand, parse_stage};

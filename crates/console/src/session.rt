@@ -1,7 +1,6 @@
 // All the lines of an input, and all that is answered.
 ghost use Rattle.std.specs.Prelude.{◌≡◌, ◌++◌, map, IfOk, OnOk, string_bytes};
 ghost use Rattle.console.specs.Acts.{entries_for};
-ghost use Rattle.console.specs.Answers.{reply_text};
 ghost use Rattle.console.specs.Held.{nothing_held};
 ghost use Rattle.console.specs.Lines.{lines_of};
 ghost use Rattle.console.specs.Transcripts.{Transcript, printed};
@@ -10,9 +9,8 @@ ghost use Rattle.console.specs.Views.{view};
 use crate::answer::Answer;
 use crate::desk::Desk;
 use crate::line::{Line, parse_line};
-use crate::reply::Reply;
+use crate::reply::write_reply;
 use memchr::memchr;
-use protocol::Entry;
 use std::alloc::{AllocError, Global};
 
 // What the console prints for all of an input.
@@ -59,11 +57,4 @@ fn write_answer(text: &mut String, desk: &Desk, answer: Option<Answer>) -> Resul
         Some(answer) => write_reply(text, &answer, desk.entries(&answer)),
         None => Ok(()),
     }
-}
-
-fn write_reply(text: &mut String, answer: &Answer, entries: &[Entry]) -> Result<(), AllocError>
-    ensures { OnOk result (string_bytes text.new ≡ string_bytes text.old ++ reply_text answer.now entries.now) }
-{
-    text.write(Reply { answer, entries })
-        .map_err(|_| AllocError)
 }

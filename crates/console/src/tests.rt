@@ -2,7 +2,7 @@ use crate::answer::Answer;
 use crate::desk::Desk;
 use crate::layered::Layered;
 use crate::line::{Command, NotUnderstood, parse_line};
-use crate::reply::Reply;
+use crate::reply::write_reply;
 use crate::session::transcript;
 use crate::stage::{StageCommand, parse_stage};
 use device::{Device, Projector, Trail};
@@ -85,11 +85,8 @@ fn a_letter_has_its_own_line(rt: HostRuntime) -> Result<(), Fail> {
         answer: 2,
         station: 4,
     }];
-    let reply = Reply {
-        answer: &Answer::Struck(Ok(1)),
-        entries: &entries,
-    };
-    let text = reply.to_string(rt.alloc())?;
+    let mut text = String::new(rt.alloc());
+    write_reply(&mut text, &Answer::Struck(Ok(1)), &entries)?;
     assert_eq!(rt; text.as_str(), "strike 1 letters\n  1 3 2 4\n");
     Ok(())
 }

@@ -1,6 +1,8 @@
 // A desk for one show: two files and a rig, and then line after line as it comes.
 use crate::failure::Failure;
-use console::{Answer, Desk, Line, NotUnderstood, Reply, StageCommand, parse_line, parse_stage};
+use console::{
+    Answer, Desk, Line, NotUnderstood, StageCommand, parse_line, parse_stage, write_reply,
+};
 use protocol::Entry;
 use std::io::{BufRead, Write};
 use std::{fs, io};
@@ -81,5 +83,7 @@ fn answer(desk: &mut Desk, number: u64, line: &[u8]) -> Option<Answer> {
 }
 
 fn print_reply(rt: &HostRuntime, answer: &Answer, entries: &[Entry]) -> io::Result<()> {
-    print!(rt; "{}", Reply { answer, entries })
+    let mut text = String::new(rt.alloc());
+    write_reply(&mut text, answer, entries)?;
+    print!(rt; "{text}")
 }
