@@ -1,7 +1,7 @@
 -- Tables that agree: at each station, letter and answer, and letter by letter.
 use Rattle.std.proofs.Common.{◌≡◌, ℕ, ◌<◌, Bool, true, false, Some, None, Option, sym, refl, ap, ◌∙◌, true≢false}
 use Rattle.protocol.specs.Lists.{all, from}
-use Rattle.protocol.specs.Tables.{Table, same_option, same_table, same_letter}
+use Rattle.protocol.specs.Tables.{Table, same_option, same_answers, same_table, same_letter}
 use Rattle.protocol.proofs.Tests.{same_number, equal_numbers, is_false}
 use Rattle.protocol.proofs.Rows.{below, all_below}
 
@@ -25,17 +25,24 @@ same_tests false c f g = sym (is_false c (λ e. true≢false (sym (g e))))
 
 module _ (e : Table) (l : ℕ) (f : Table) (m : ℕ) where
   pub letter_same : same_letter e l f m ≡ true → (s a : ℕ) → s < 16 → a < 4 → e s l a ≡ f s m a
-  letter_same ok s a sl al = same_option_is (e s l a) (f s m a)
-      (below (λ x. same_option (e s l x) (f s m x)) 4 a (below (λ y. all (λ x. same_option (e y l x) (f y m x)) (from 0 4)) 16 s ok sl) al)
+  unfolding same_letter
+  letter_same ok s a sl al = same_option_is (e s l a) (f s m a) (below (λ x. same_option (e s l x) (f s m x)) 4 a (below (same_answers e l f m) 16 s ok sl) al)
 
   pub same_letter_so : ((s a : ℕ) → s < 16 → a < 4 → e s l a ≡ f s m a) → same_letter e l f m ≡ true
-  same_letter_so h = all_below _ 16 (λ s sl. all_below (λ a. same_option (e s l a) (f s m a)) 4 (λ a al. is_same_option (e s l a) (f s m a) (h s a sl al)))
+  unfolding same_letter
+  same_letter_so h = all_below (same_answers e l f m) 16 (λ s sl. all_below (λ a. same_option (e s l a) (f s m a)) 4 (λ a al. is_same_option (e s l a) (f s m a) (h s a sl al)))
+
+  pub all_answers_same : all (same_answers e l f m) (from 0 16) ≡ same_letter e l f m
+  unfolding same_letter
+  all_answers_same = refl
 
 pub letters_alike : (e g : Table) (l k : ℕ) (f : Table) (m : ℕ) → ((s a : ℕ) → e s l a ≡ g s k a) → same_letter e l f m ≡ same_letter g k f m
+unfolding same_letter
 letters_alike e g l k f m h i = all (λ s. all (λ a. same_option (h s a i) (f s m a)) (from 0 4)) (from 0 16)
 
 module _ (e f : Table) where
   pub table_same : same_table e f ≡ true → (s l a : ℕ) → s < 16 → l < 16 → a < 4 → e s l a ≡ f s l a
+  unfolding same_table
   table_same ok s l a sl ll al = same_option_is (e s l a) (f s l a)
       (below (λ x. same_option (e s l x) (f s l x)) 4 a
       (below (λ y. all (λ x. same_option (e s y x) (f s y x)) (from 0 4)) 16 l
@@ -43,6 +50,7 @@ module _ (e f : Table) where
 
   -- two tables are one where they have the edges of each letter
   pub letter_by_letter : all (λ l. same_letter e l f l) (from 0 16) ≡ same_table e f
+  unfolding same_table
   letter_by_letter = same_tests _ _
       (λ ok. all_below _ 16 (λ s sl. all_below _ 16 (λ l ll. all_below (λ a. same_option (e s l a) (f s l a)) 4 (λ a al.
       is_same_option (e s l a) (f s l a) (letter_same e l f l (below (λ k. same_letter e k f k) 16 l ok ll) s a sl al)))))

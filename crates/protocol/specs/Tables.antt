@@ -64,9 +64,12 @@ same_option (Some x) None = false
 same_option (Some x) (Some y) = x == y
 
 -- the same for every station, letter and answer
-abbrev pub same_table : Table → Table → Bool
+unfoldable pub same_table : Table → Table → Bool
 same_table e f = all (λ s. all (λ l. all (λ a. same_option (e s l a) (f s l a)) (from 0 4)) (from 0 16)) (from 0 16)
 
--- a letter in one has the edges of a letter in the other
-abbrev pub same_letter : Table → ℕ → Table → ℕ → Bool
-same_letter e l f m = all (λ s. all (λ a. same_option (e s l a) (f s m a)) (from 0 4)) (from 0 16)
+-- a letter in one has the edges of a letter in the other: at a station, and at all
+abbrev pub same_answers : Table → ℕ → Table → ℕ → ℕ → Bool
+same_answers e l f m s = all (λ a. same_option (e s l a) (f s m a)) (from 0 4)
+
+unfoldable pub same_letter : Table → ℕ → Table → ℕ → Bool
+same_letter e l f m = all (same_answers e l f m) (from 0 16)
