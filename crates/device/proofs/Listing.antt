@@ -3,8 +3,8 @@ use Rattle.std.proofs.Common.{◌≡◌, ℕ, Bool, ◌&&◌, eqb, List, [], ◌
 use Rattle.std.proofs.lemmas.List.{length-map}
 use Rattle.std.specs.List.{list_all}
 use Rattle.protocol.specs.declared.edges.Edge.{Edge}
-use Rattle.protocol.specs.Lists.{all, Each, Apart}
-use Rattle.protocol.specs.Tables.{Table, EdgeRanged, SameEdge, edge_in_range, edge_count, of_letter, same_option, same_letter}
+use Rattle.protocol.specs.Lists.{all}
+use Rattle.protocol.specs.Tables.{Table, EdgeRanged, edge_in_range, edge_count, of_letter, same_option, same_letter}
 use Rattle.protocol.proofs.Lists.{all_each}
 use Rattle.protocol.proofs.Ranges.{edge_ranged}
 use Rattle.protocol.proofs.Letters.{has_listed, new_so}

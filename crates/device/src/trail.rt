@@ -76,6 +76,10 @@ impl<D: Device> Device for Trail<D> {
         self.below.letter_fits(letter, table, named)
     }
 
+    fn has_table(&self, table: &EdgeTable) -> bool {
+        self.below.has_table(table)
+    }
+
     fn ask(&mut self, letter: u8) -> u8
         ensures hears { Hears (D.Device.meaning self.old.below) letter result (D.Device.meaning self.new.below) }
         ensures shows { trail_of self.new ≡ last 32 (trail_of self.old ++ (record { letter = letter; answer = result } ∷ [])) }
