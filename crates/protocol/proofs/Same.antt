@@ -55,3 +55,6 @@ module _ (e f : Table) where
       (λ ok. all_below _ 16 (λ s sl. all_below _ 16 (λ l ll. all_below (λ a. same_option (e s l a) (f s l a)) 4 (λ a al.
       is_same_option (e s l a) (f s l a) (letter_same e l f l (below (λ k. same_letter e k f k) 16 l ok ll) s a sl al)))))
       (λ ok. all_below _ 16 (λ l ll. same_letter_so e l f l (λ s a sl al. table_same ok s l a sl ll al)))
+
+pub tables_alike : (e f g : Table) → ((s l a : ℕ) → f s l a ≡ g s l a) → same_table e f ≡ same_table e g
+tables_alike e f g h i = same_table e (λ s l a. h s l a i)
