@@ -1,5 +1,5 @@
 -- Tests of lists: what they say, and when they pass.
-use Rattle.std.proofs.Common.{◌≡◌, ℕ, zero, suc, ◌+◌, ◌<◌, ◌≤◌, Bool, true, false, not, eqb, List, [], ◌∷◌, length, get_or, drop, sym, refl, ap, ◌∙◌, subst, inl, inr, true≢false, suc-le-suc, zero-le, le_of_suc-le-suc, arith}
+use Rattle.std.proofs.Common.{◌≡◌, ℕ, zero, suc, ◌+◌, ◌<◌, Bool, true, false, not, eqb, List, [], ◌∷◌, length, get_or, drop, sym, refl, ap, ◌∙◌, inl, inr, true≢false, suc-le-suc, zero-le, le_of_suc-le-suc, arith}
 use Rattle.protocol.specs.Lists.{all}
 use Rattle.protocol.proofs.Tests.{both, and_true, either, or_left, or_right, is_false, not_true, same_number, equal_numbers}
 use Rattle.protocol.proofs.Lists.{each_at, all_each}
