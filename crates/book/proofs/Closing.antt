@@ -15,8 +15,9 @@ use Rattle.book.specs.declared.draft.Placed.{Placed}
 use Rattle.book.specs.Kinds.{Kind, Retreats, retreat_of, rank_of, homed, nearer, falls}
 use Rattle.book.specs.Reading.{Draft, Reading, unplaced, drafted, edge_homed, close_draft, closed}
 use Rattle.book.specs.Lawful.{kind_in, RetreatRanged, Homed, Departs, Nearer, LawfulKind}
+use Rattle.protocol.proofs.Firsts.{edge_found, edge_there, edge_leads}
 use Rattle.protocol.proofs.Answers.{allows, is_allowed, each_answer, all_answers}
-use Rattle.book.proofs.Lookups.{edge_found, edge_there, edge_leads, retreat_found, retreat_there, retreat_is}
+use Rattle.book.proofs.Lookups.{retreat_found, retreat_there, retreat_is}
 use Rattle.book.proofs.Entering.{Entered, lawful_entered, joined, joined_none}
 
 module _ (k : Kind) (n : Entered k) where

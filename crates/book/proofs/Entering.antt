@@ -9,16 +9,17 @@ use Rattle.faults.specs.Results.{need}
 use Rattle.faults.proofs.Results.{ok_same, bound, needed, met}
 use Rattle.protocol.specs.declared.edges.Edge.{Edge}
 use Rattle.protocol.specs.Lists.{Each, Apart}
-use Rattle.protocol.specs.Tables.{EdgeRanged, edge_in_range, table_of}
+use Rattle.protocol.specs.Tables.{EdgeRanged, SameEdge, edge_in_range, table_of}
 use Rattle.protocol.proofs.Tests.{some_of, not_true, is_not}
 use Rattle.protocol.proofs.Lists.{each_in, in_each, each_join, each_parts, apart_more, apart_before}
+use Rattle.protocol.proofs.Firsts.{edge_found, edge_there}
 use Rattle.protocol.proofs.Ranges.{edge_ranged, ranged_edge}
 use Rattle.book.specs.declared.automaton.Retreat.{Retreat}
 use Rattle.book.specs.declared.draft.Placed.{Placed}
 use Rattle.book.specs.Kinds.{Kind, no_kind, retreat_of, retreat_in_range}
 use Rattle.book.specs.Reading.{Draft, unplaced, drafted, edge_added, add_edge, retreat_added, add_retreat}
-use Rattle.book.specs.Lawful.{Item, edge, retreat, kind_in, RetreatRanged, SameEdge, SameStation, LawfulKind}
-use Rattle.book.proofs.Lookups.{edge_found, edge_there, retreat_found, retreat_there}
+use Rattle.book.specs.Lawful.{Item, edge, retreat, kind_in, RetreatRanged, SameStation, LawfulKind}
+use Rattle.book.proofs.Lookups.{retreat_found, retreat_there}
 
 -- what a kind keeps before it is closed
 pub record Entered (k : Kind) : Type 0 where

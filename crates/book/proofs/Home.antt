@@ -5,11 +5,12 @@ use Rattle.protocol.specs.Lists.{Each, SomeOne}
 use Rattle.protocol.specs.Tables.{Allowed, table_of}
 use Rattle.protocol.proofs.Tests.{cases}
 use Rattle.protocol.proofs.Lists.{In, each_at, each_in, some_in}
+use Rattle.protocol.proofs.Firsts.{edge_found, edge_leads}
 use Rattle.book.specs.declared.automaton.Retreat.{Retreat}
 use Rattle.book.specs.Kinds.{Kind, no_kind, Retreats, retreat_of, rank_of}
 use Rattle.book.specs.Lawful.{RetreatRanged, Homed, Departs, Nearer, LawfulKind}
 use Rattle.book.specs.Home.{Named, ComesHome, is_away, retreats, RetreatsLeadHome}
-use Rattle.book.proofs.Lookups.{edge_found, edge_leads, retreat_found, retreat_is}
+use Rattle.book.proofs.Lookups.{retreat_found, retreat_is}
 use Rattle.book.proofs.Entering.{lawful_entered}
 use Rattle.book.proofs.Closing.{is_nearer}
 use Rattle.book.proofs.Passed.{passed_declares}

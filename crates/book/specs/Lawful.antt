@@ -2,7 +2,7 @@
 use Rattle.std.specs.Prelude.{◌≡◌, ℕ, suc, ◌<◌, ◌≤◌, ◌⊎◌, List, [], ◌∷◌, ◌++◌, map, length, Ok}
 use Rattle.protocol.specs.declared.edges.Edge.{Edge}
 use Rattle.protocol.specs.Lists.{Each, SomeOne, Apart}
-use Rattle.protocol.specs.Tables.{EdgeRanged}
+use Rattle.protocol.specs.Tables.{EdgeRanged, SameEdge}
 use Rattle.book.specs.declared.automaton.Retreat.{Retreat}
 use Rattle.book.specs.Kinds.{Kind}
 use Rattle.book.specs.Reading.{read_book}
@@ -44,10 +44,6 @@ kind_in is = record { edges = edges_in is; retreats = retreats_in is }
 
 abbrev pub RetreatRanged : Retreat → Type 0
 RetreatRanged r = (0 < r.station) × (r.station < 16) × (r.letter < 16) × (0 < r.rank) × (r.rank < 16)
-
--- of one station, letter and answer
-abbrev pub SameEdge : Edge → Edge → Type 0
-SameEdge e f = (e.from ≡ f.from) × (e.letter ≡ f.letter) × (e.answer ≡ f.answer)
 
 abbrev pub SameStation : Retreat → Retreat → Type 0
 SameStation r q = r.station ≡ q.station

@@ -5,6 +5,7 @@ ghost use Rattle.console.specs.Layers.{built, layered_lawful, layered_meaning};
 use crate::layer::Layer;
 use device::{Device, LetterMap, Patch, Projector, Trail};
 use faults::Fault;
+use protocol::EdgeTable;
 
 // A projector, or one layer over another device; layers in each other are a nest of these types.
 #[derive(Drop)]
@@ -40,6 +41,22 @@ impl<D: Device> Device for Layered<'_, D> {
             Layered::Bare(projector) => projector.heard(),
             Layered::Trailed(trail) => trail.heard(),
             Layered::Patched(patch) => patch.heard(),
+        }
+    }
+
+    fn letter_fits(&self, letter: u8, table: &EdgeTable, named: u8) -> bool {
+        match self {
+            Layered::Bare(projector) => projector.letter_fits(letter, table, named),
+            Layered::Trailed(trail) => trail.letter_fits(letter, table, named),
+            Layered::Patched(patch) => patch.letter_fits(letter, table, named),
+        }
+    }
+
+    fn has_table(&self, table: &EdgeTable) -> bool {
+        match self {
+            Layered::Bare(projector) => projector.has_table(table),
+            Layered::Trailed(trail) => trail.has_table(table),
+            Layered::Patched(patch) => patch.has_table(table),
         }
     }
 

@@ -1,5 +1,6 @@
 pub mod Hearing
 mod Lettering
+mod Listing
 mod Projecting
 mod Renaming
 mod Turning

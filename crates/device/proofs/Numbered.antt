@@ -1,7 +1,8 @@
 -- Ports by their numbers: what each shows, and what a letter to it does.
-use Rattle.std.proofs.Common.{◌≡◌, ℕ, zero, suc, ◌<◌, ◌≤◌, [], ◌∷◌, length, get_or, set, None, refl, ap, arith}
+use Rattle.std.proofs.Common.{◌≡◌, ℕ, zero, suc, ◌<◌, ◌≤◌, false, [], ◌∷◌, length, get_or, set, None, refl, ap, arith}
+use Rattle.protocol.specs.Tables.{Table, same_table}
 use Rattle.device.specs.Meaning.{Meaning, Hears}
-use Rattle.device.specs.Ports.{Ports, RigHears, here, there, missing, edge_at, heard_at, station_at}
+use Rattle.device.specs.Ports.{Ports, RigHears, here, there, missing, edge_at, has_table_at, heard_at, station_at}
 
 -- A port shows what its device shows
 
@@ -19,6 +20,11 @@ pub heard_of : (g : Ports) (d : Meaning) (p : ℕ) → p < length g → heard_at
 heard_of [] d p h = absurd (omega arith)
 heard_of (m ∷ g) d zero h = refl
 heard_of (m ∷ g) d (suc p) h = heard_of g d p (omega arith)
+
+pub table_of_port : (g : Ports) (p : ℕ) (t : Table) → p < length g → has_table_at g p t ≡ same_table (edge_at g p) t
+table_of_port [] p t h = absurd (omega arith)
+table_of_port (m ∷ g) zero t h = refl
+table_of_port (m ∷ g) (suc p) t h = table_of_port g p t (omega arith)
 
 -- A letter to a port goes to its device
 pub port_hears : {g g' : Ports} {p l a : ℕ} (d : Meaning) → p < length g → RigHears g p l a g' →
@@ -48,6 +54,11 @@ pub no_heard : (g : Ports) (p : ℕ) → length g ≤ p → heard_at g p ≡ 0
 no_heard [] p h = refl
 no_heard (m ∷ g) zero h = absurd (omega arith)
 no_heard (m ∷ g) (suc p) h = no_heard g p (omega arith)
+
+pub no_table : (g : Ports) (p : ℕ) (t : Table) → length g ≤ p → has_table_at g p t ≡ false
+no_table [] p t h = refl
+no_table (m ∷ g) zero t h = absurd (omega arith)
+no_table (m ∷ g) (suc p) t h = no_table g p t (omega arith)
 
 pub past_ports : (g : Ports) (p l : ℕ) → length g ≤ p → RigHears g p l 255 g
 past_ports [] p l h = missing

@@ -1,6 +1,6 @@
 -- A patch hears as a device does.
-use Rattle.std.proofs.Common.{◌≡◌, ℕ, ◌+◌, ◌%◌, ◌^◌, ◌<◌, Bool, true, false, cond, Some, None, Option, unwrap_or, sym, refl, ap, ◌∙◌, subst, arith, lit<}
-use Rattle.protocol.specs.Tables.{Table, Ranged, Allowed, allowed}
+use Rattle.std.proofs.Common.{◌≡◌, ℕ, ◌+◌, ◌%◌, ◌^◌, ◌<◌, Bool, true, false, cond, eqb, Some, None, Option, unwrap_or, sym, refl, ap, ◌∙◌, subst, arith, lit<}
+use Rattle.protocol.specs.Tables.{Table, Ranged, Allowed, allowed, edge_count, same_letter}
 use Rattle.protocol.proofs.Tests.{none_some}
 use Rattle.device.specs.declared.letter_map.LetterMap.{LetterMap}
 use Rattle.device.specs.LetterMap.{down}
@@ -8,6 +8,8 @@ use Rattle.device.specs.Meaning.{Meaning, Lawful, Hears, moves, jams}
 use Rattle.device.specs.Patch.{led_by, renamed, patched, passes, HeardBelow}
 use Rattle.device.specs.Kept.{patch_lawful}
 use Rattle.protocol.proofs.Answers.{allows, allowed_ranged}
+use Rattle.protocol.proofs.Letters.{has_none}
+use Rattle.protocol.proofs.Same.{letters_alike}
 use Rattle.device.proofs.Hearing.{moves_to, jams_so}
 
 -- nothing is allowed where a device is jammed
@@ -78,3 +80,12 @@ heard_below meaning {a = a} {d = d} {d' = d'} e w = subst (λ v. HeardBelow mean
 
 pub not_heard : {D : Type 0} (meaning : D → Meaning) {o : Option ℕ} (d : D) (a : ℕ) → None ≡ o → HeardBelow meaning o d a d
 not_heard meaning d a e = subst (λ v. HeardBelow meaning v d a d) e refl
+
+-- The edges of a letter under a map are those of the letter below
+
+module _ (map : LetterMap) (e : Table) (l : ℕ) (t : Table) (m : ℕ) where
+  pub fits_below : (k : ℕ) → Some k ≡ down map l → same_letter e k t m ≡ same_letter (renamed map e) l t m
+  fits_below k q = letters_alike e (renamed map e) k l t m (λ s a. ap (λ o. led_by e s o a) q)
+
+  pub fits_none : None ≡ down map l → eqb (edge_count t m) 0 ≡ same_letter (renamed map e) l t m
+  fits_none q = has_none (renamed map e) l (λ s a. ap (λ o. led_by e s o a) (sym q)) t m

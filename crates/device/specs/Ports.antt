@@ -1,12 +1,12 @@
 -- What a rig means: the meanings of its ports, in order.
-use Rattle.std.specs.Prelude.{ℕ, zero, suc, List, [], ◌∷◌, None}
-use Rattle.protocol.specs.Tables.{Table}
+use Rattle.std.specs.Prelude.{ℕ, zero, suc, Bool, false, List, [], ◌∷◌, None}
+use Rattle.protocol.specs.Tables.{Table, same_table}
 use Rattle.device.specs.Meaning.{Meaning, Hears}
 
 abbrev pub Ports : Type 0
 Ports = List Meaning
 
--- none, 16 and 0 at a missing port
+-- none, 16, 0 and no at a missing port
 abbrev pub edge_at : Ports → ℕ → Table
 edge_at [] p s l a = None
 edge_at (m ∷ g) zero s l a = m.table s l a
@@ -21,6 +21,11 @@ abbrev pub heard_at : Ports → ℕ → ℕ
 heard_at [] p = 0
 heard_at (m ∷ g) zero = m.heard
 heard_at (m ∷ g) (suc p) = heard_at g p
+
+abbrev pub has_table_at : Ports → ℕ → Table → Bool
+has_table_at [] p t = false
+has_table_at (m ∷ g) zero t = same_table m.table t
+has_table_at (m ∷ g) (suc p) t = has_table_at g p t
 
 -- a letter changes its port's device alone; a missing port answers 255
 pub data RigHears : Ports → ℕ → ℕ → ℕ → Ports → Type 0 where

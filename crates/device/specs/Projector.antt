@@ -6,7 +6,7 @@ use Rattle.protocol.specs.Tables.{Table, allowed, table_of}
 use Rattle.device.specs.declared.projector.Projector.{Projector}
 use Rattle.device.specs.Meaning.{Meaning}
 
-abbrev edge : ℕ → ℕ → ℕ → ℕ → Edge
+abbrev pub edge : ℕ → ℕ → ℕ → ℕ → Edge
 edge s l a t = record { from = s; letter = l; answer = a; to = t }
 
 abbrev pub projector_edges : List Edge

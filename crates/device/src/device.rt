@@ -1,9 +1,10 @@
 // What every device shows, and what it means.
 ghost use Rattle.std.specs.Prelude.{◌≡◌};
-ghost use Rattle.protocol.specs.Tables.{allowed};
+ghost use Rattle.protocol.specs.Slots.{table_in};
+ghost use Rattle.protocol.specs.Tables.{allowed, same_answers, same_letter, same_table};
 ghost use Rattle.device.specs.Meaning.{Hears, Lawful, Meaning};
 
-use protocol::ANSWERS;
+use protocol::{ANSWERS, EdgeTable, LETTERS, STATIONS};
 
 pub trait Device {
     ghost meaning: { Self → Meaning };
@@ -23,6 +24,29 @@ pub trait Device {
     // Sends a letter: one declared answer, or 255 and the device is jammed.
     fn ask(&mut self, letter: u8) -> u8
         ensures { Hears (meaning self.old) letter result (meaning self.new) };
+
+    // Whether a letter has the edges here that another letter has in the table: the letter itself, or where it was renamed
+    // the one that it stands for. To write it is no duty: a device that lists its edges, or asks the one below, is faster.
+    fn letter_fits(&self, letter: u8, table: &EdgeTable, named: u8) -> bool
+        ensures { result ≡ same_letter (meaning self.now).table letter (table_in table.now) named }
+    {
+        (0..STATIONS).all(|station| {
+            let here = [
+                self.edge(station, letter, 0),
+                self.edge(station, letter, 1),
+                self.edge(station, letter, 2),
+                self.edge(station, letter, 3),
+            ];
+            here == table.successors(station, named)
+        })
+    }
+
+    // Whether its table is the one given. (Again no duty.)
+    fn has_table(&self, table: &EdgeTable) -> bool
+        ensures { result ≡ same_table (meaning self.now).table (table_in table.now) }
+    {
+        (0..LETTERS).all(|letter| self.letter_fits(letter, table, letter))
+    }
 
     // What each device proves of its own meaning.
     ghost lawful: { (d : Self) → Lawful (meaning d) };

@@ -1,8 +1,11 @@
 // Devices in a row of ports.
 ghost use Rattle.std.specs.Prelude.{◌≡◌, ◌<◌, ◌≤◌, length};
 ghost use Rattle.protocol.specs.Lists.{Each};
+ghost use Rattle.protocol.specs.Slots.{table_in};
 ghost use Rattle.device.specs.Meaning.{Lawful};
-ghost use Rattle.device.specs.Ports.{Ports, RigHears, edge_at, heard_at, station_at};
+ghost use Rattle.device.specs.Ports.{Ports, RigHears, edge_at, has_table_at, heard_at, station_at};
+
+use protocol::{EdgeTable, LETTERS, STATIONS};
 
 pub trait Rig {
     ghost ports: { Self → Ports };
@@ -18,6 +21,24 @@ pub trait Rig {
 
     fn heard(&self, port: u8) -> u32
         ensures { result ≡ heard_at (ports self.now) port };
+
+    // Whether there is such a port, and its device has the table. To write it is no duty: it is faster to ask the device.
+    fn has_table(&self, port: u8, table: &EdgeTable) -> bool
+        ensures { result ≡ has_table_at (ports self.now) port (table_in table.now) }
+    {
+        port < self.count()
+            && (0..LETTERS).all(|letter| {
+                (0..STATIONS).all(|station| {
+                    let here = [
+                        self.edge(port, station, letter, 0),
+                        self.edge(port, station, letter, 1),
+                        self.edge(port, station, letter, 2),
+                        self.edge(port, station, letter, 3),
+                    ];
+                    here == table.successors(station, letter)
+                })
+            })
+    }
 
     fn ask(&mut self, port: u8, letter: u8) -> u8
         ensures { RigHears (ports self.old) port letter result (ports self.new) };

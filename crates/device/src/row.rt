@@ -8,7 +8,7 @@ use crate::answers::REFUSED;
 use crate::device::Device;
 use crate::rig::Rig;
 use crate::rigs::{PORTS, UNHEARD};
-use protocol::JAMMED;
+use protocol::{EdgeTable, JAMMED};
 
 // A device at least; the first eight are ports.
 #[derive(Drop)]
@@ -77,6 +77,10 @@ impl<D: Device> Rig for Row<D> {
 
     fn heard(&self, port: u8) -> u32 {
         self.at(port).map_or(UNHEARD, |device| device.heard())
+    }
+
+    fn has_table(&self, port: u8, table: &EdgeTable) -> bool {
+        self.at(port).is_some_and(|device| device.has_table(table))
     }
 
     fn ask(&mut self, port: u8, letter: u8) -> u8 {

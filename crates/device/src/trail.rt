@@ -7,6 +7,7 @@ ghost use Rattle.device.specs.Trail.{trail_of};
 
 use crate::device::Device;
 use crate::ring::{Pair, Ring};
+use protocol::EdgeTable;
 
 #[derive(Drop)]
 pub struct Trail<D> {
@@ -70,6 +71,14 @@ impl<D: Device> Device for Trail<D> {
 
     fn heard(&self) -> u32 {
         self.below.heard()
+    }
+
+    fn letter_fits(&self, letter: u8, table: &EdgeTable, named: u8) -> bool {
+        self.below.letter_fits(letter, table, named)
+    }
+
+    fn has_table(&self, table: &EdgeTable) -> bool {
+        self.below.has_table(table)
     }
 
     #[inline(never)]

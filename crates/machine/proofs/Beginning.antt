@@ -8,7 +8,7 @@ use Rattle.faults.specs.Numbers.{nowhere, stage_fault}
 use Rattle.faults.specs.Results.{need}
 use Rattle.faults.proofs.Results.{ok_same, bound, needed}
 use Rattle.protocol.specs.declared.edges.Entry.{Entry}
-use Rattle.protocol.specs.Tables.{Table, Ranged, table_of}
+use Rattle.protocol.specs.Tables.{Table, Ranged, same_table, table_of}
 use Rattle.protocol.proofs.Tests.{same_number}
 use Rattle.book.specs.Kinds.{Kind, no_kind}
 use Rattle.device.specs.Meaning.{Meaning}
@@ -21,7 +21,7 @@ use Rattle.rules.proofs.Reading.{PartSo}
 use Rattle.rules.proofs.Books.{passed_ranged}
 use Rattle.rules.proofs.Scripts.{ScriptSo, passed_so}
 use Rattle.machine.specs.Player.{Player, main, begun, port_table}
-use Rattle.machine.specs.Calls.{same_table, each_port, table_fits, begin}
+use Rattle.machine.specs.Calls.{each_port, table_fits, begin}
 use Rattle.machine.specs.Promise.{AtPorts}
 use Rattle.machine.proofs.Ports.{at_map, at_both, at_length, PortSo, Live}
 use Rattle.machine.proofs.Held.{Homeward, passed_homeward, Held}

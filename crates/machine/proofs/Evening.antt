@@ -3,6 +3,7 @@ use Rattle.std.proofs.Common.{true, false, [], ◌∷◌, ◌++◌, replicate, O
 use Rattle.faults.specs.declared.causes.StageCause.TheVariants.{Over}
 use Rattle.faults.specs.Numbers.{nowhere, stage_fault}
 use Rattle.protocol.specs.Lists.{Each}
+use Rattle.protocol.specs.Tables.{same_table}
 use Rattle.protocol.proofs.Ranges.{listed_ranged}
 use Rattle.device.specs.Meaning.{Lawful, moves}
 use Rattle.device.specs.Ports.{Ports, here}
@@ -81,9 +82,11 @@ exits = told _ _ 0 _ _ _ _ _ _ (here (moves 0 1 refl)) (told _ _ 0 _ _ _ _ _ _ (
 -- Calls
 
 run1 : Run (first_scene house_rig) [] scene1
+unfolding same_table
 run1 = called [] (first_scene house_rig) scene1 (begins failing (Ok 1)) started (failing_passed, (refl, refl), refl)
 
 run2 : Run (first_scene house_rig) failed_entries scene2
+unfolding same_table
 run2 =
     called [] scene1 scene2
     (goes 10 (blank_log 130) (Ok (record { reason = Failed 7 36; steps = 3; letters = 4 })) 2 (written failed_entries (blank_log 130)))
@@ -93,9 +96,11 @@ run3 : Run (first_scene house_rig) failed_entries scene2
 run3 = called failed_entries scene2 scene2 (goes 10 (blank_log 130) (Err (stage_fault Over nowhere)) 0 (blank_log 130)) run2 (refl, refl, refl, refl)
 
 run4 : Run (first_scene house_rig) failed_entries scene4
+unfolding same_table
 run4 = called failed_entries scene2 scene4 (begins asking (Ok 1)) run3 (asking_passed, (refl, refl), refl)
 
 run5 : Run (first_scene house_rig) (failed_entries ++ ready_entries) scene5
+unfolding same_table
 run5 =
     called failed_entries scene4 scene5
     (goes 2 (blank_log 122) (Ok (record { reason = Spent; steps = 2; letters = 2 })) 2 (written ready_entries (blank_log 122)))
@@ -105,6 +110,7 @@ run6 : Run (first_scene house_rig) (failed_entries ++ ready_entries) scene5
 run6 = called (failed_entries ++ ready_entries) scene5 scene5 (looks 0 (Ok (2, false))) run5 ((refl, refl), refl)
 
 run7 : Run (first_scene house_rig) (failed_entries ++ ready_entries ++ struck_entries) last_scene
+unfolding same_table
 run7 =
     called (failed_entries ++ ready_entries) scene5 last_scene (strikes (blank_log 120) (Ok 2) (written struck_entries (blank_log 120)))
     run6 (refl, (struck_entries, exits, refl, refl))

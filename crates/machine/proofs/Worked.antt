@@ -1,9 +1,11 @@
 -- The worked examples, by computation.
 use Rattle.std.proofs.Common.{refl}
+use Rattle.protocol.specs.Tables.{same_table}
 use Rattle.machine.specs.Examples.{Examples}
 use Rattle.machine.specs.Refusals.{Refusals}
 
 pub worked : Examples
+unfolding same_table
 worked = record {
   there_and_back = refl;
   third_answer = refl;
@@ -21,6 +23,7 @@ worked = record {
 }
 
 pub refused : Refusals
+unfolding same_table
 refused = record {
   not_over = refl;
   other_count = refl;

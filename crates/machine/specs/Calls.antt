@@ -1,17 +1,15 @@
 -- The calls begin, go, look and strike, with their refusals in order.
 -- A refused call leaves the player, the rig and the log as they were.
-use Rattle.std.specs.Prelude.{◌≡◌, ℕ, suc, ◌+◌, Bool, true, false, not, ◌&&◌, List, [], ◌∷◌, ◌++◌, length, drop, Some, None, Ok, Err, Option, Result, ◌==◌, nat_eq, nat_le, nat_lt}
+use Rattle.std.specs.Prelude.{◌≡◌, ℕ, suc, ◌+◌, Bool, not, ◌&&◌, List, [], ◌∷◌, ◌++◌, length, drop, Ok, Err, Result, ◌==◌, nat_eq, nat_le, nat_lt}
 use Rattle.faults.specs.declared.fault.Fault.{Fault}
 use Rattle.faults.specs.declared.causes.StageCause.{StageCause}
 use Rattle.faults.specs.declared.causes.StageCause.TheVariants.{NotOver, OtherCount, OtherTable, NotAway, Over, BadBudget, ShortLog, RigChanged, NoSuchPort}
 use Rattle.faults.specs.Numbers.{nowhere, stage_fault}
 use Rattle.faults.specs.Results.{◌>>=◌, need}
 use Rattle.protocol.specs.declared.edges.Entry.{Entry}
-use Rattle.protocol.specs.Lists.{all}
-use Rattle.protocol.specs.Tables.{Table}
+use Rattle.protocol.specs.Tables.{same_table}
 use Rattle.device.specs.Meaning.{Meaning}
 use Rattle.device.specs.Ports.{Ports}
-use Rattle.rules.specs.Lists.{from}
 use Rattle.rules.specs.Script.{Script}
 use Rattle.machine.specs.declared.report.Report.{Report}
 use Rattle.machine.specs.Dialogue.{Plays}
@@ -26,17 +24,7 @@ Log = List Entry
 abbrev pub written : List Entry → Log → Log
 written es log = es ++ drop (length es) log
 
--- Tables and ports
-
-abbrev pub same_option : Option ℕ → Option ℕ → Bool
-same_option None None = true
-same_option None (Some y) = false
-same_option (Some x) None = false
-same_option (Some x) (Some y) = x == y
-
--- the same for every station, letter and answer
-abbrev pub same_table : Table → Table → Bool
-same_table e f = all (λ s. all (λ l. all (λ a. same_option (e s l a) (f s l a)) (from 0 4)) (from 0 16)) (from 0 16)
+-- Ports
 
 -- the lowest port, counted from the number, at which the test fails
 abbrev pub each_port : StageCause → (ℕ → Meaning → Bool) → ℕ → Ports → Result (Unit {0}) Fault

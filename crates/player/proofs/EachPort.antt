@@ -4,11 +4,11 @@ use Rattle.faults.specs.declared.fault.Fault.{Fault}
 use Rattle.faults.specs.declared.causes.StageCause.{StageCause}
 use Rattle.faults.specs.Numbers.{stage_fault}
 use Rattle.faults.specs.Results.{need, ◌>>=◌}
-use Rattle.protocol.specs.Tables.{Table}
+use Rattle.protocol.specs.Tables.{Table, same_table}
 use Rattle.device.specs.Meaning.{Meaning}
 use Rattle.device.specs.Ports.{Ports, edge_at, station_at}
 use Rattle.machine.specs.Player.{Player, kept, port_table}
-use Rattle.machine.specs.Calls.{each_port, same_table, table_fits}
+use Rattle.machine.specs.Calls.{each_port, table_fits}
 
 -- a port that is there, with its device
 pub record There (g : Ports) (i : ℕ) : Type 0 where

@@ -1,6 +1,7 @@
 mod Calling
 mod Coming
 mod EachPort
+mod Fitting
 mod Leaving
 mod Lending
 mod Onward

@@ -1,41 +1,21 @@
 // Whether a rig is as a player keeps it, or as a script needs it.
-ghost use Rattle.std.specs.Prelude.{◌≡◌, ◌&&◌, ◌==◌, nat_eq};
+ghost use Rattle.std.specs.Prelude.{◌≡◌, ◌<◌, ◌&&◌, ◌==◌, length, nat_eq};
 ghost use Rattle.faults.specs.declared.causes.StageCause.TheVariants.{NotAway, OtherTable};
+ghost use Rattle.protocol.specs.Tables.{same_table};
 ghost use Rattle.device.specs.Ports.{edge_at, station_at};
-ghost use Rattle.machine.specs.Calls.{each_port, rig_kept, same_table, table_fits};
+ghost use Rattle.machine.specs.Calls.{each_port, rig_kept, table_fits};
 ghost use Rattle.machine.specs.Player.{begun, kept, port_table};
 ghost use Rattle.player.specs.Loaded.{held};
-ghost use Rattle.player.specs.Kept.{may_begin, same_answers, same_letters};
+ghost use Rattle.player.specs.Kept.{may_begin};
 ghost use Rattle.player.specs.Seen.{seen};
 
 use crate::loaded::Loaded;
 use crate::stage::Stage;
 use device::Rig;
 use faults::{Fault, Layer, NOWHERE, StageCause};
-use protocol::{ANSWERS, AWAY, LETTERS, STATIONS};
+use protocol::AWAY;
 
 impl<'a> Loaded<'a> {
-    fn answers_fit<R: Rig>(&self, rig: &R, port: u8, station: u8, letter: u8) -> bool
-        ensures { result ≡ same_answers (edge_at (R.Rig.ports rig.now) port) (port_table (held self.now) port) station letter }
-    {
-        (0..ANSWERS).all(|answer| {
-            rig.edge(port, station, letter, answer) == self.edge(port, station, letter, answer)
-        })
-    }
-
-    fn letters_fit<R: Rig>(&self, rig: &R, port: u8, station: u8) -> bool
-        ensures { result ≡ same_letters (edge_at (R.Rig.ports rig.now) port) (port_table (held self.now) port) station }
-    {
-        (0..LETTERS).all(|letter| self.answers_fit(rig, port, station, letter))
-    }
-
-    // The device of a port has the table of the port's kind.
-    pub(crate) fn table_fits<R: Rig>(&self, rig: &R, port: u8) -> bool
-        ensures { result ≡ same_table (edge_at (R.Rig.ports rig.now) port) (port_table (held self.now) port) }
-    {
-        (0..STATIONS).all(|station| self.letters_fit(rig, port, station))
-    }
-
     // Refuses the lowest port at which a table differs.
     fn tables_fit<R: Rig>(&self, rig: &R) -> Result<(), Fault>
         ensures { result ≡ each_port OtherTable (table_fits (begun (held self.now))) 0 (R.Rig.ports rig.now) }
@@ -73,6 +53,7 @@ fn all_away<R: Rig>(rig: &R) -> Result<(), Fault>
 impl<'a> Stage<'a> {
     // The table is that of the port's kind, and the station the one that is kept.
     fn port_kept<R: Rig>(&self, loaded: &Loaded<'a>, rig: &R, port: u8) -> bool
+        requires { port < length (R.Rig.ports rig.now) }
         ensures { result ≡ (same_table (edge_at (R.Rig.ports rig.now) port) (port_table (held loaded.now) port) && station_at (R.Rig.ports rig.now) port == kept (seen (held loaded.now) self.now) port) }
     {
         loaded.table_fits(rig, port) && rig.station(port) == self.station(port)

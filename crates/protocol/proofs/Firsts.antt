@@ -1,10 +1,10 @@
 -- Look-ups of the first in a list that passes a test, and tables of edges.
 use Rattle.std.proofs.Common.{◌≡◌, ℕ, Bool, true, false, cond, ◌&&◌, eqb, List, [], ◌∷◌, ◌++◌, is_some, Some, None, Option, sym, refl, ap, ◌∙◌, inl, inr}
 use Rattle.protocol.specs.declared.edges.Edge.{Edge}
-use Rattle.protocol.specs.Lists.{first_of}
-use Rattle.protocol.specs.Tables.{leads, table_of}
-use Rattle.protocol.proofs.Tests.{both, and_true, none_some, some_same, same_number, equal_numbers}
-use Rattle.protocol.proofs.Lists.{In}
+use Rattle.protocol.specs.Lists.{Apart, first_of}
+use Rattle.protocol.specs.Tables.{SameEdge, leads, table_of}
+use Rattle.protocol.proofs.Tests.{some_of, both, and_true, none_some, some_same, same_number, equal_numbers}
+use Rattle.protocol.proofs.Lists.{In, apart_same}
 
 -- what is found is of one in the list that passes
 abbrev pub Found : {X Y : Type 0} → (X → Bool) → (X → Y) → List X → Y → Type 0
@@ -59,3 +59,23 @@ pub table_added : (es : List Edge) (e : Edge) → table_of es e.from e.letter e.
 table_added es e new s l a = first_added (λ x. leads x s l a) (λ x. x.to) es e (λ q.
     let p = led e s l a q in
     (λ i. table_of es (sym p.0 i) (sym p.1 i) (sym p.2 i)) ∙ new)
+
+-- Edges that are looked up
+
+pub edge_found : (es : List Edge) (s l a t : ℕ) → table_of es s l a ≡ Some t →
+    (e : Edge) × In e es × (e.from ≡ s) × (e.letter ≡ l) × (e.answer ≡ a) × (e.to ≡ t)
+edge_found es s l a t q =
+    let w = first_found (λ e. leads e s l a) (λ e. e.to) es t q in
+    let p = led w.0 s l a w.2 in
+    (w.0, w.1, p.0, p.1, p.2, w.3)
+
+pub edge_there : (es : List Edge) (e : Edge) (s l a : ℕ) → In e es → e.from ≡ s → e.letter ≡ l → e.answer ≡ a → is_some (table_of es s l a) ≡ true
+edge_there es e s l a m p q r = first_there (λ f. leads f s l a) (λ f. f.to) es e m (is_led e s l a p q r)
+
+-- where no two are of one station, letter and answer
+pub edge_leads : (es : List Edge) → Apart SameEdge es → (e : Edge) (s l : ℕ) → In e es → e.from ≡ s → e.letter ≡ l → table_of es s l e.answer ≡ Some e.to
+edge_leads es new e s l m p q =
+    let w = some_of (table_of es s l e.answer) (edge_there es e s l e.answer m p q refl) in
+    let f = edge_found es s l e.answer w.0 w.1 in
+    let same : f.0 ≡ e = apart_same SameEdge (λ x y h. (sym h.0, sym h.1, sym h.2)) es new f.0 e f.1 m (f.2 ∙ sym p, f.3 ∙ sym q, f.4) in
+    w.1 ∙ ap (λ (t : ℕ). Some t) (sym f.5 ∙ ap (λ (v : Edge). v.to) same)

@@ -1,5 +1,5 @@
 -- All of a list: tests, and what they say; members.
-use Rattle.std.proofs.Common.{◌≡◌, ℕ, zero, suc, Bool, true, List, [], ◌∷◌, ◌++◌, get_or, sym, refl, ◌∙◌, subst, inl, inr}
+use Rattle.std.proofs.Common.{◌≡◌, ℕ, zero, suc, Bool, true, false, cond, List, [], ◌∷◌, ◌++◌, filter, get_or, sym, refl, ◌∙◌, subst, inl, inr}
 use Rattle.protocol.specs.Lists.{all, Each, SomeOne, Apart}
 use Rattle.protocol.proofs.Tests.{both, and_true}
 
@@ -23,6 +23,15 @@ each_all f P h (x ∷ xs) a = and_true (h x a.0) (each_all f P h xs a.1)
 pub all_more : {X : Type 0} (f : X → Bool) (xs : List X) (x : X) → all f xs ≡ true → f x ≡ true → all f (xs ++ (x ∷ [])) ≡ true
 all_more f [] x ok h = and_true h refl
 all_more f (y ∷ xs) x ok h = let p = both (f y) (all f xs) ok in and_true p.0 (all_more f xs x p.1 h)
+
+-- what holds of all holds of those that pass a test
+pub each_passed : {X : Type 0} (f : X → Bool) (P Q : X → Type 0) → ((x : X) → f x ≡ true → P x → Q x) → (xs : List X) → Each P xs → Each Q (filter f xs)
+each_passed f P Q h [] a = tt
+each_passed {X} f P Q h (x ∷ xs) a = by (f x) refl (each_passed f P Q h xs a.1)
+  where
+    by : (b : Bool) → f x ≡ b → Each Q (filter f xs) → Each Q (cond b (x ∷ filter f xs) (filter f xs))
+    by true e rest = (h x e a.0, rest)
+    by false e rest = rest
 
 -- Members
 
@@ -70,3 +79,11 @@ module _ {X : Type 0} (Alike : X → X → Type 0) where
   pub apart_before : (xs : List X) (x : X) (ys : List X) → Apart Alike (xs ++ (x ∷ ys)) → Each (λ y. Alike y x → ⊥) xs
   apart_before [] x ys a = tt
   apart_before (y ∷ xs) x ys a = ((each_parts (λ v. Alike y v → ⊥) xs (x ∷ ys) a.0).1.0, apart_before xs x ys a.1)
+
+  pub apart_passed : (f : X → Bool) (xs : List X) → Apart Alike xs → Apart Alike (filter f xs)
+  apart_passed f [] a = tt
+  apart_passed f (x ∷ xs) a = by (f x) (apart_passed f xs a.1)
+    where
+      by : (b : Bool) → Apart Alike (filter f xs) → Apart Alike (cond b (x ∷ filter f xs) (filter f xs))
+      by true rest = (each_passed f (λ y. Alike x y → ⊥) (λ y. Alike x y → ⊥) (λ y e n. n) xs a.0, rest)
+      by false rest = rest

@@ -1,5 +1,5 @@
--- Tests and facts of all of a list, or of some of it.
-use Rattle.std.specs.Prelude.{Bool, true, cond, ◌&&◌, ◌⊎◌, List, [], ◌∷◌, Some, None, Option}
+-- Tests and facts of all of a list, or of some of it; rows of numbers.
+use Rattle.std.specs.Prelude.{ℕ, zero, suc, Bool, true, cond, ◌&&◌, ◌⊎◌, List, [], ◌∷◌, Some, None, Option}
 
 abbrev pub all : {X : Type 0} → (X → Bool) → List X → Bool
 all f [] = true
@@ -22,3 +22,8 @@ Apart Alike (x ∷ xs) = Each (λ y. Alike x y → ⊥) xs × Apart Alike xs
 abbrev pub first_of : {X Y : Type 0} → (X → Bool) → (X → Y) → List X → Option Y
 first_of f g [] = None
 first_of f g (x ∷ xs) = cond (f x) (Some (g x)) (first_of f g xs)
+
+-- n, n + 1, .. : as many as k
+abbrev pub from : ℕ → ℕ → List ℕ
+from n zero = []
+from n (suc k) = n ∷ from (suc n) k

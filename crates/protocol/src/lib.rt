@@ -4,6 +4,7 @@
 ghost use Rattle.protocol.specs.Paths.{PathsBalance};
 
 mod edges;
+mod letter_edges;
 mod table;
 
 pub use edges::{ANSWERS, AWAY, Edge, Entry, JAMMED, LETTERS, STATIONS};

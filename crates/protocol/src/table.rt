@@ -1,40 +1,40 @@
 // The edges of a protocol, to be looked up in constant time.
-ghost use Rattle.std.specs.Prelude.{◌≡◌, ℕ, ◌+◌, ◌*◌, ◌<◌, true, false, not, ◌&&◌, is_some, if◌then◌else◌, Some, None};
-ghost use Rattle.protocol.specs.Tables.{allowed, edge_in_range, leads};
-ghost use Rattle.protocol.specs.Slots.{slot_of, table_in};
+ghost use Rattle.std.specs.Prelude.{◌≡◌, ℕ, not, ◌&&◌, is_some, if◌then◌else◌, Some, None};
+ghost use Rattle.protocol.specs.Tables.{allowed, edge_count, edge_in_range, leads, successors};
+ghost use Rattle.protocol.specs.Slots.{table_in};
 
-use crate::edges::{ANSWERS, Edge, LETTERS, STATIONS};
+use crate::edges::Edge;
+use crate::letter_edges::LetterEdges;
 
-// By station, letter and answer, the station to which the edge leads. Flat, since the checker takes no array of arrays here,
-// and a struct for each row would be no plainer.
+// By letter: two tables are compared letter by letter.
 #[derive(Clone, Copy)]
 pub struct EdgeTable {
-    to: [Option<u8>; 1024],
-}
-
-fn slot(station: u8, letter: u8, answer: u8) -> usize
-    requires { (station < 16) × ((letter < 16) × (answer < 4)) }
-    ensures value { result ≡ slot_of station letter answer }
-    ensures within { result < 1024 }
-{
-    64 * station as usize + 4 * letter as usize + answer as usize
+    letters: [LetterEdges; 16],
 }
 
 impl EdgeTable {
     pub fn new() -> EdgeTable
         ensures { (s l a : ℕ) → table_in result s l a ≡ None }
     {
-        EdgeTable { to: [None; 1024] }
+        EdgeTable {
+            letters: [LetterEdges::new(); 16],
+        }
     }
 
     // Where an edge leads; none outside the ranges.
     pub fn edge(&self, station: u8, letter: u8, answer: u8) -> Option<u8>
         ensures { result ≡ table_in self.now station letter answer }
     {
-        if station < STATIONS && letter < LETTERS && answer < ANSWERS {
-            self.to[slot(station, letter, answer)]
-        } else {
-            None
+        self.letters.get(usize::from(letter))?.edge(station, answer)
+    }
+
+    // Where the answers 0 to 3 to a letter lead from a station.
+    pub fn successors(&self, station: u8, letter: u8) -> [Option<u8>; 4]
+        ensures { result ≡ successors (table_in self.now) station letter }
+    {
+        match self.letters.get(usize::from(letter)) {
+            Some(edges) => edges.successors(station),
+            None => [None; 4],
         }
     }
 
@@ -42,7 +42,17 @@ impl EdgeTable {
     pub fn allowed(&self, station: u8, letter: u8) -> bool
         ensures { result ≡ allowed (table_in self.now) station letter }
     {
-        (0..ANSWERS).any(|answer| self.edge(station, letter, answer).is_some())
+        self.successors(station, letter).iter().any(Option::is_some)
+    }
+
+    // How many edges the letter has; none outside the range.
+    pub fn edge_count(&self, letter: u8) -> u8
+        ensures { result ≡ edge_count (table_in self.now) letter }
+    {
+        match self.letters.get(usize::from(letter)) {
+            Some(edges) => edges.count(),
+            None => 0,
+        }
     }
 
     // Takes in an edge that is in range and new; any other changes nothing. True where it was taken in, as of a set's
@@ -54,8 +64,7 @@ impl EdgeTable {
         if !edge.in_range() || self.edge(edge.from, edge.letter, edge.answer).is_some() {
             return false;
         }
-        let at = slot(edge.from, edge.letter, edge.answer);
-        self.to[at] = Some(edge.to);
+        self.letters[usize::from(edge.letter)].declare(edge.from, edge.answer, edge.to);
         true
     }
 }

@@ -1,9 +1,9 @@
 -- Tests of lists: what they say, and when they pass.
-use Rattle.std.proofs.Common.{◌≡◌, ℕ, zero, suc, ◌+◌, ◌<◌, ◌≤◌, Bool, true, false, not, eqb, List, [], ◌∷◌, length, get_or, drop, sym, refl, ap, ◌∙◌, subst, inl, inr, true≢false, suc-le-suc, zero-le, le_of_suc-le-suc, arith}
-use native.Mathlib.Decide.{ℕ_discrete}
-use Rattle.protocol.specs.Lists.{all, Each}
+use Rattle.std.proofs.Common.{◌≡◌, ℕ, zero, suc, ◌+◌, ◌<◌, Bool, true, false, not, eqb, List, [], ◌∷◌, length, get_or, drop, sym, refl, ap, ◌∙◌, inl, inr, true≢false, suc-le-suc, zero-le, le_of_suc-le-suc, arith}
+use Rattle.protocol.specs.Lists.{all}
 use Rattle.protocol.proofs.Tests.{both, and_true, either, or_left, or_right, is_false, not_true, same_number, equal_numbers}
-use Rattle.protocol.proofs.Lists.{each_at, all_each, each_all}
+use Rattle.protocol.proofs.Lists.{each_at, all_each}
+pub use Rattle.protocol.proofs.Rows.{each_from, from_each, below, all_below}
 use Rattle.rules.specs.Lists.{same, has, distinct, Different, empty, from}
 
 -- All of a list
@@ -17,28 +17,9 @@ all_of f (x ∷ xs) d h = and_true (h 0) (all_of f xs d (λ i. h (suc i)))
 
 -- Numbers from one on
 
-pub each_from : (P : ℕ → Type 0) (n k : ℕ) → ((i : ℕ) → n ≤ i → i < n + k → P i) → Each P (from n k)
-each_from P n zero f = tt
-each_from P n (suc k) f = (f n (omega arith) (omega arith), each_from P (suc n) k (λ i le lt. f i (omega (arith, le)) (omega (arith, lt))))
-
-pub from_each : (P : ℕ → Type 0) (n k i : ℕ) → Each P (from n k) → n ≤ i → i < n + k → P i
-from_each P n zero i h le lt = absurd (omega arith)
-from_each P n (suc k) i h le lt = by (ℕ_discrete n i) (from_each P (suc n) k i h.1)
-  where
-    by : Dec (n ≡ i) → (suc n ≤ i → i < suc n + k → P i) → P i
-    by (yes e) r = subst P e h.0
-    by (no ne) r = r (omega (arith, ne)) (omega arith)
-
--- a test of the numbers below k
-pub below : (f : ℕ → Bool) (k i : ℕ) → all f (from 0 k) ≡ true → i < k → f i ≡ true
-below f k i h lt = from_each (λ j. f j ≡ true) 0 k i (all_each f (λ j. f j ≡ true) (λ j q. q) (from 0 k) h) (omega arith) (omega arith)
-
--- one of them fails it
+-- one of the numbers below k fails the test
 pub fails_below : (f : ℕ → Bool) (k i : ℕ) → i < k → f i ≡ false → all f (from 0 k) ≡ false
 fails_below f k i lt e = is_false (all f (from 0 k)) (λ h. true≢false (sym (below f k i h lt) ∙ e))
-
-pub all_below : (f : ℕ → Bool) (k : ℕ) → ((i : ℕ) → i < k → f i ≡ true) → all f (from 0 k) ≡ true
-all_below f k h = each_all f (λ j. f j ≡ true) (λ j q. q) (from 0 k) (each_from (λ j. f j ≡ true) 0 k (λ i le lt. h i (omega (arith, lt))))
 
 pub length_from : (n k : ℕ) → length (from n k) ≡ k
 length_from n zero = refl

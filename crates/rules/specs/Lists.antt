@@ -1,5 +1,6 @@
--- Tests of lists, and rows of numbers.
-use Rattle.std.specs.Prelude.{◌≡◌, ℕ, zero, suc, ◌+◌, ◌*◌, ◌<◌, Bool, true, false, not, ◌&&◌, ◌||◌, List, [], ◌∷◌, length, ◌==◌, slice_index}
+-- Tests of lists. Rows of numbers are those of protocols.
+use Rattle.std.specs.Prelude.{◌≡◌, ℕ, suc, ◌+◌, ◌*◌, ◌<◌, Bool, true, false, not, ◌&&◌, ◌||◌, List, [], ◌∷◌, length, ◌==◌, slice_index}
+pub use Rattle.protocol.specs.Lists.{from}
 
 abbrev pub same : List ℕ → List ℕ → Bool
 same [] [] = true
@@ -22,11 +23,6 @@ Different xs = (i j : ℕ) → i < length xs → j < length xs → slice_index x
 abbrev pub empty : {X : Type 0} → List X → Bool
 empty [] = true
 empty (x ∷ xs) = false
-
--- n, n + 1, .. : as many as k
-abbrev pub from : ℕ → ℕ → List ℕ
-from n zero = []
-from n (suc k) = n ∷ from (suc n) k
 
 abbrev pub total : List ℕ → ℕ
 total [] = 0

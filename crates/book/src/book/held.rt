@@ -1,6 +1,7 @@
 // The book that is held: at first empty and passed, later what its checks put in its place.
-ghost use Rattle.std.specs.Prelude.{◌≡◌, ◌≤◌, [], length, is_ok, is_some, if◌then◌else◌, Ok, MatchOption, OnErr, nat_lt};
+ghost use Rattle.std.specs.Prelude.{◌≡◌, ℕ, ◌≤◌, [], length, is_ok, is_some, if◌then◌else◌, Ok, MatchOption, OnErr, nat_lt};
 ghost use Rattle.std.specs.Option.{option_map};
+ghost use Rattle.protocol.specs.Slots.{table_in};
 ghost use Rattle.protocol.specs.Tables.{table_of};
 ghost use Rattle.book.specs.Automata.{Shows};
 ghost use Rattle.book.specs.Held.{bytes_of, kind_held, kinds_held, rank_held};
@@ -13,7 +14,7 @@ use super::Book;
 use crate::automaton::{Automata, Automaton};
 use crate::reader::Reader;
 use faults::Fault;
-use protocol::AWAY;
+use protocol::{AWAY, EdgeTable};
 
 impl<'a> Book<'a> {
     // The empty book.
@@ -62,11 +63,19 @@ impl<'a> Book<'a> {
         self.kinds.get(usize::from(kind))
     }
 
+    // The edges of a kind as a table.
+    pub fn table(&self, kind: u8) -> Option<&EdgeTable>
+        ensures known { is_some result ≡ nat_lt kind (length (kinds_held self.now)) }
+        ensures shows { MatchOption result (kind_held self.now kind ≡ no_kind) (λ t. (s l a : ℕ) → table_in t.now s l a ≡ table_of (kind_held self.now kind).edges s l a) }
+    {
+        Some(&self.automaton(kind)?.edges)
+    }
+
     // Where an edge of a kind leads; none outside the ranges.
     pub fn edge(&self, kind: u8, station: u8, letter: u8, answer: u8) -> Option<u8>
         ensures { result ≡ table_of (kind_held self.now kind).edges station letter answer }
     {
-        self.automaton(kind)?.edges.edge(station, letter, answer)
+        self.table(kind)?.edge(station, letter, answer)
     }
 
     // The retreat letter of a station of a kind; none at away, and where there is no retreat.

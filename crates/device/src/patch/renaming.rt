@@ -9,7 +9,7 @@ use crate::answers::REFUSED;
 use crate::device::Device;
 use crate::letter_map::LetterMap;
 use crate::tally::Tally;
-use protocol::JAMMED;
+use protocol::{EdgeTable, JAMMED};
 
 impl<D: Device> Patch<D> {
     pub fn new(map: LetterMap, below: D) -> Patch<D>
@@ -71,6 +71,13 @@ impl<D: Device> Device for Patch<D> {
 
     fn heard(&self) -> u32 {
         self.tally.heard()
+    }
+
+    fn letter_fits(&self, letter: u8, table: &EdgeTable, named: u8) -> bool {
+        match self.map.down(letter) {
+            Some(below) => self.below.letter_fits(below, table, named),
+            None => table.edge_count(named) == 0,
+        }
     }
 
     #[inline(never)]

@@ -1,14 +1,15 @@
 // The simulated projector as a device: where its edges lead, and what it answers.
-ghost use Rattle.std.specs.Prelude.{◌≡◌, ◌<◌, drop};
+ghost use Rattle.std.specs.Prelude.{◌≡◌, ◌<◌, drop, map};
+ghost use Rattle.protocol.specs.Tables.{of_letter};
 ghost use Rattle.device.specs.Meaning.{Hears};
-ghost use Rattle.device.specs.Projector.{answer_of, arrived, next_reply, projected, projector_meaning, projector_table, replies_after, replies_of};
+ghost use Rattle.device.specs.Projector.{answer_of, arrived, edge, next_reply, projected, projector_edges, projector_meaning, projector_table, replies_after, replies_of};
 ghost use Rattle.device.specs.Kept.{projector_lawful};
 
 use super::Projector;
 use crate::answers::REFUSED;
 use crate::device::Device;
 use crate::tally::Tally;
-use protocol::{AWAY, JAMMED};
+use protocol::{AWAY, EdgeTable, JAMMED};
 
 // The letter that asks for the lamp's state, the one letter with several answers.
 const LAMP: u8 = 3;
@@ -29,6 +30,22 @@ fn successor(station: u8, letter: u8, answer: u8) -> Option<u8>
         (2, 6, 0) => Some(1),
         (3, 6, 0) => Some(1),
         _ => None,
+    }
+}
+
+// The same edges by their letter: from where, under which answer, and where to.
+fn edges_of(letter: u8) -> &'static [(u8, u8, u8)]
+    ensures { map (λ (from, answer, to). edge from letter answer to) result.now ≡ of_letter letter projector_edges }
+{
+    match letter {
+        0 => &[(0, 0, 1)],
+        1 => &[(1, 0, 0)],
+        2 => &[(1, 0, 2)],
+        3 => &[(2, 0, 3), (2, 1, 2), (2, 2, 1)],
+        4 => &[(3, 0, 4)],
+        5 => &[(4, 0, 3)],
+        6 => &[(2, 0, 1), (3, 0, 1)],
+        _ => &[],
     }
 }
 
@@ -99,6 +116,12 @@ impl Device for Projector<'_> {
 
     fn heard(&self) -> u32 {
         self.tally.heard()
+    }
+
+    fn letter_fits(&self, letter: u8, table: &EdgeTable, named: u8) -> bool {
+        let edges = edges_of(letter);
+        usize::from(table.edge_count(named)) == edges.len()
+            && edges.iter().all(|&(from, answer, to)| table.edge(from, named, answer) == Some(to))
     }
 
     fn ask(&mut self, letter: u8) -> u8

@@ -7,7 +7,7 @@ use crate::answers::REFUSED;
 use crate::device::Device;
 use crate::rig::Rig;
 use crate::rigs::{PORTS, UNHEARD};
-use protocol::JAMMED;
+use protocol::{EdgeTable, JAMMED};
 
 // The device is port 0, and each port of the rig comes one later; a device behind the eighth is no port.
 #[derive(Drop)]
@@ -93,6 +93,14 @@ impl<D: Device, R: Rig> Rig for Before<D, R> {
             Some(Part::First) => self.first.heard(),
             Some(Part::Rest(port)) => self.rest.heard(port),
             None => UNHEARD,
+        }
+    }
+
+    fn has_table(&self, port: u8, table: &EdgeTable) -> bool {
+        match part_of(port) {
+            Some(Part::First) => self.first.has_table(table),
+            Some(Part::Rest(port)) => self.rest.has_table(port, table),
+            None => false,
         }
     }
 

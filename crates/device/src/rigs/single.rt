@@ -8,7 +8,7 @@ use crate::answers::REFUSED;
 use crate::device::Device;
 use crate::rig::Rig;
 use crate::rigs::UNHEARD;
-use protocol::JAMMED;
+use protocol::{EdgeTable, JAMMED};
 
 // Its one port is 0.
 #[derive(Drop)]
@@ -67,6 +67,10 @@ impl<D: Device> Rig for Single<D> {
 
     fn heard(&self, port: u8) -> u32 {
         self.at(port).map_or(UNHEARD, |device| device.heard())
+    }
+
+    fn has_table(&self, port: u8, table: &EdgeTable) -> bool {
+        self.at(port).is_some_and(|device| device.has_table(table))
     }
 
     fn ask(&mut self, port: u8, letter: u8) -> u8 {

@@ -1,5 +1,7 @@
 // What the player looks up in a script and its book, each in constant time.
-ghost use Rattle.std.specs.Prelude.{◌≡◌, get_or};
+ghost use Rattle.std.specs.Prelude.{◌≡◌, ◌<◌, get_or, length};
+ghost use Rattle.protocol.specs.Tables.{same_table};
+ghost use Rattle.device.specs.Ports.{edge_at};
 ghost use Rattle.rules.specs.Script.{empty_script, no_part};
 ghost use Rattle.script.specs.Held.{script_held};
 ghost use Rattle.script.specs.Pieces.{piece};
@@ -8,6 +10,8 @@ ghost use Rattle.player.specs.Loaded.{held, homeward};
 
 use super::Loaded;
 use book::Book;
+use device::Rig;
+use protocol::EdgeTable;
 use script::{Block, Script};
 
 impl<'a> Loaded<'a> {
@@ -50,6 +54,17 @@ impl<'a> Loaded<'a> {
     {
         self.book
             .edge(self.script.kind(port), station, letter, answer)
+    }
+
+    // The device of a port has the table of the port's kind, which has no edges where the book has no such kind.
+    pub(crate) fn table_fits<R: Rig>(&self, rig: &R, port: u8) -> bool
+        requires { port < length (R.Rig.ports rig.now) }
+        ensures { result ≡ same_table (edge_at (R.Rig.ports rig.now) port) (port_table (held self.now) port) }
+    {
+        match self.book.table(self.script.kind(port)) {
+            Some(table) => rig.has_table(port, table),
+            None => rig.has_table(port, &EdgeTable::new()),
+        }
     }
 
     // The letter by which a port at the station is led towards away; 0 where there is none.

@@ -1,14 +1,16 @@
-use Rattle.std.proofs.Common.{refl, rules, tests}
-use Rattle.std.proofs.lemmas.Iterator.{YieldsList-from_range}
-use Rattle.std.proofs.lemmas.Iterator.Search.{all_from_yields_List}
-use Rattle.device.specs.Ports.{edge_at}
-use Rattle.machine.specs.Player.{port_table}
-use Rattle.player.specs.Loaded.{held}
-use Rattle.player.specs.Kept.{same_letters}
+use Rattle.std.proofs.Common.{sym, ap, ◌∙◌}
+use Rattle.protocol.specs.Tables.{table_of}
+use Rattle.book.specs.Kinds.{Kind}
+use Rattle.player.proofs.Fitting.{port_fits}
 use Rattle.player.proofs.loaded.Loaded.table_fits.Goals as goal
 
-pub returns : goal.returns
-returns g c =
-    let a = c.args in
-    all_from_yields_List (same_letters (edge_at (g.R.Rig.ports a.rig.now) a.port) (port_table (held a.self.now) a.port)) _ _ _
-    c.all.ensures.ran (YieldsList-from_range 0 16 16 refl refl) (λ x b q k. search (rules, tests))
+pub returns-in-Some : goal.returns-in-Some
+returns-in-Some g c =
+    c.has_table.ensures
+    ∙ port_fits c.args.self.now (g.R.Rig.ports c.args.rig.now) c.args.port c.kind.result c.in-Some.table.now c.requires c.kind.ensures c.in-Some.ensures.shows
+
+pub returns-in-None : goal.returns-in-None
+returns-in-None g c =
+    c.has_table-in-None.ensures
+    ∙ port_fits c.args.self.now (g.R.Rig.ports c.args.rig.now) c.args.port c.kind.result c.new.result c.requires c.kind.ensures
+    (λ s l a. c.new.ensures s l a ∙ ap (λ (k : Kind). table_of k.edges s l a) (sym c.in-None.ensures.shows))
