@@ -6,6 +6,7 @@ pub mod Handing
 pub mod Looking
 pub mod Walking
 pub mod Turns
+pub mod Leaving
 pub mod Mapped
 pub mod Bound
 pub mod Headers

@@ -46,12 +46,12 @@ module _ (x : Scope) (d : ℕ) (b : Block) (ks : Keys) where
 
 -- Bodies
 
-pub body_ends : (x : Scope) (b : Block) (r : Result Keys Fault) → b ≡ x.running.body → r ≡ block_keys x 1 b x.running.ins →
+pub body_ends : (x : Scope) (b : Block) (r : Result Keys Fault) → b ≡ x.running.body → block_keys x 1 b x.running.ins ≡ r →
     check_body x ≡ (r >>= (λ end. need (same end x.running.outs) (key_fault BodyEnd x.running.place)))
 unfolding block_keys
 body_ends x b r e q =
     ap (λ (v : Result Keys Fault). v >>= (λ end. need (same end x.running.outs) (key_fault BodyEnd x.running.place)))
-    (sym (q ∙ ap (λ (v : Block). check_whole x 1 v x.running.ins) e))
+    (sym (ap (λ (v : Block). check_whole x 1 v x.running.ins) e) ∙ q)
 
 -- Commands
 

@@ -1,5 +1,5 @@
 -- The check of blocks and commands, shut: what is used of it are the laws in proofs/Walking.
-use Rattle.std.specs.Prelude.{◌≡◌, ℕ, suc, List, Ok, Err, Option, Result}
+use Rattle.std.specs.Prelude.{◌≡◌, ℕ, suc, List, Ok, Err, Option, Result, MatchResult}
 use Rattle.arrayvec.specs.ArrayVec.{ArrayVec}
 use Rattle.faults.specs.declared.fault.Fault.{Fault}
 use Rattle.faults.specs.declared.causes.KeyCause.TheVariants.{NotAllowed}
@@ -41,3 +41,7 @@ branch_ends x d h ts bs ks = branches (block_keys x d) ks h ts bs
 abbrev pub GivesEnds : Result (ArrayVec Keys) Fault → Result (List Keys) Fault → Type 0
 GivesEnds (Ok v) q = q ≡ Ok v.items
 GivesEnds (Err e) q = q ≡ Err e
+
+-- what a call answered, and the keys that it left, are what the definition gives
+abbrev pub Leaves : {X : Type 0} → Result X Fault → Keys → Result Keys Fault → Type 0
+Leaves r ks q = MatchResult r (λ _. q ≡ Ok ks) (λ e. q ≡ Err e)

@@ -1,4 +1,4 @@
-// Key sets: by handle, eight stations. They go by value, so that each branch has its own copy.
+// Key sets: by handle, eight stations. A block changes its own in place, and each branch begins with a copy.
 ghost use Rattle.std.specs.Prelude.{◌≡◌, map, slice_index, slice_set};
 ghost use Rattle.rules.specs.Lists.{distinct as distinct_in};
 ghost use Rattle.rules.specs.Script.{hand_over};
@@ -14,15 +14,14 @@ pub(crate) fn at(keys: &Keys, handle: u8) -> u8
     keys.get(handle as usize).copied().unwrap_or(0)
 }
 
-// The keys with one handle at another station.
-pub(crate) fn moved(mut keys: Keys, handle: u8, to: u8) -> Keys
-    ensures { result ≡ slice_set keys handle to }
+// Puts one handle at another station. One byte is written: a set that goes by value would be written so and read whole at once, which stalls.
+pub(crate) fn set_key(keys: &mut Keys, handle: u8, to: u8)
+    ensures { keys.new ≡ slice_set keys.old handle to }
 {
     // Not `get_mut`: the proof would no longer know the other elements.
     if (handle as usize) < keys.len() {
         keys[handle as usize] = to;
     }
-    keys
 }
 
 // Whether no handle is bound twice.
@@ -37,14 +36,10 @@ pub(crate) fn distinct(bound: &[u8]) -> bool
 }
 
 // The bound handles go to the stations at which those of a part end.
-pub(crate) fn hand_over(keys: Keys, bound: &[u8], handles: &[Handle]) -> Keys
-    ensures { result ≡ hand_over keys bound.now (map (λ h. h.leaves) handles.now) }
+pub(crate) fn hand_over(keys: &mut Keys, bound: &[u8], handles: &[Handle])
+    ensures { keys.new ≡ hand_over keys.old bound.now (map (λ h. h.leaves) handles.now) }
 {
-    let mut handed = keys;
     for (binding, handle) in bound.iter().zip(handles) {
-        // The checker refuses `handed = moved(..)` in a loop, so a `let` stands between.
-        let next = moved(handed, *binding, handle.leaves);
-        handed = next;
+        set_key(keys, *binding, handle.leaves);
     }
-    handed
 }

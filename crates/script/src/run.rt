@@ -3,6 +3,7 @@ ghost use Rattle.std.specs.Prelude.{◌≡◌, take};
 ghost use Rattle.protocol.specs.Lists.{all};
 ghost use Rattle.rules.specs.Lists.{from};
 ghost use Rattle.script.specs.Runs.{fits as fits_at, run_keys, suits as suits_at};
+ghost use Rattle.script.specs.Walk.{Leaves};
 
 use crate::keys::{Keys, at, distinct, hand_over};
 use crate::part::{HANDLES, NONE, Part};
@@ -38,18 +39,18 @@ impl Run<'_> {
     }
 
     // The bound handles have the kinds, and the stations, with which the part begins.
-    fn suits(&self, keys: Keys) -> bool
-        ensures { result ≡ all (suits_at self.now.running.now keys self.now.part.now self.now.bindings) (from 0 self.now.part.now.own) }
+    fn suits(&self, keys: &Keys) -> bool
+        ensures { result ≡ all (suits_at self.now.running.now keys.now self.now.part.now self.now.bindings) (from 0 self.now.part.now.own) }
     {
         let running = self.running;
         self.bound().iter().zip(&self.part.handles).all(|(binding, handle)| {
-            running.kind(*binding) == handle.kind && at(&keys, *binding) == handle.enters
+            running.kind(*binding) == handle.kind && at(keys, *binding) == handle.enters
         })
     }
 
-    // The keys after the RUN, which stands at the place.
-    pub(crate) fn check(&self, place: u16, keys: Keys) -> Result<Keys, Fault>
-        ensures { result ≡ run_keys self.now.running.now place self.now.part.now self.now.bindings keys }
+    // The keys are those before the RUN, which stands at the place, and then those after it.
+    pub(crate) fn check(&self, place: u16, keys: &mut Keys) -> Result<(), Fault>
+        ensures { Leaves result keys.new (run_keys self.now.running.now place self.now.part.now self.now.bindings keys.old) }
     {
         if !distinct(self.bound()) {
             return Err(KeyCause::BoundTwice.at(place));
@@ -57,6 +58,7 @@ impl Run<'_> {
         if !self.suits(keys) {
             return Err(KeyCause::BoundWrong.at(place));
         }
-        Ok(hand_over(keys, self.bound(), &self.part.handles))
+        hand_over(keys, self.bound(), &self.part.handles);
+        Ok(())
     }
 }

@@ -5,13 +5,13 @@ ghost use Rattle.script.specs.Commands.{said};
 ghost use Rattle.script.specs.Levels.{scope_at};
 ghost use Rattle.script.specs.Scopes.{scope_of};
 ghost use Rattle.script.specs.Pieces.{piece, pieces};
-ghost use Rattle.script.specs.Walk.{GivesEnds, allowed_at, ask_keys, block_keys, branch_ends, command_after, repeat_keys, send_keys};
+ghost use Rattle.script.specs.Walk.{GivesEnds, Leaves, allowed_at, ask_keys, block_keys, branch_ends, command_after, repeat_keys, send_keys};
 
 use crate::answers::ANSWERS;
 use crate::block::Block;
 use crate::blocks::Blocks;
 use crate::command::{Command, read_command};
-use crate::keys::{Keys, at, moved};
+use crate::keys::{Keys, at, set_key};
 use crate::level::Level;
 use crate::scope::Scope;
 use crate::successors::{Successors, agreed, common, some_declared, undeclared_empty};
@@ -21,10 +21,10 @@ use faults::{Fault, KeyCause, Layer, LayoutCause};
 impl Scope<'_> {
     // Where the answers to a letter lead, if it is allowed. (Place, handle, letter and keys go by themselves: a struct of them would be
     // made of a command for one call, and taken apart in it.)
-    fn allowed(&self, place: u16, handle: u8, letter: u8, keys: Keys) -> Result<Successors, Fault>
-        ensures { result ≡ allowed_at (scope_of self.now) place handle letter keys }
+    fn allowed(&self, place: u16, handle: u8, letter: u8, keys: &Keys) -> Result<Successors, Fault>
+        ensures { result ≡ allowed_at (scope_of self.now) place handle letter keys.now }
     {
-        let to = self.successors(handle, at(&keys, handle), letter);
+        let to = self.successors(handle, at(keys, handle), letter);
         if some_declared(&to) {
             Ok(to)
         } else {
@@ -32,12 +32,13 @@ impl Scope<'_> {
         }
     }
 
-    fn check_send(&self, place: u16, handle: u8, letter: u8, keys: Keys) -> Result<Keys, Fault>
-        ensures { result ≡ send_keys (scope_of self.now) place handle letter keys }
+    fn check_send(&self, place: u16, handle: u8, letter: u8, keys: &mut Keys) -> Result<(), Fault>
+        ensures { Leaves result keys.new (send_keys (scope_of self.now) place handle letter keys.old) }
     {
         let to = self.allowed(place, handle, letter, keys)?;
         let station = agreed(&to).ok_or(KeyCause::AnswersDiffer.at(place))?;
-        Ok(moved(keys, handle, station))
+        set_key(keys, handle, station);
+        Ok(())
     }
 }
 
@@ -49,22 +50,24 @@ impl Level<'_> {
         handle: u8,
         to: &Successors,
         blocks: Blocks,
-        keys: Keys,
+        keys: &Keys,
     ) -> Result<ArrayVec<Keys, ANSWERS>, Fault>
-        ensures { GivesEnds result (branch_ends (scope_at self.now) self.now.depth handle to.now (pieces blocks.entry) keys) }
+        ensures { GivesEnds result (branch_ends (scope_at self.now) self.now.depth handle to.now (pieces blocks.entry) keys.now) }
     {
         let mut ends = ArrayVec::new();
         let branches = blocks.by_answer();
         for (to, block) in to.iter().zip(&branches) {
             if let Some(station) = to {
-                let end = self.check_block(*block, moved(keys, handle, *station))?;
+                let mut end = *keys;
+                set_key(&mut end, handle, *station);
+                self.check_block(*block, &mut end)?;
                 ends.push(end);
             }
         }
         Ok(ends)
     }
 
-    // The keys after an ASK at the place, whose blocks stand here.
+    // After an ASK at the place, whose blocks stand here.
     #[cycle(blocks)]
     fn check_ask(
         &self,
@@ -72,34 +75,36 @@ impl Level<'_> {
         handle: u8,
         letter: u8,
         blocks: Blocks,
-        keys: Keys,
-    ) -> Result<Keys, Fault>
-        ensures { result ≡ ask_keys (scope_at self.now) self.now.depth place handle letter (pieces blocks.entry) keys }
+        keys: &mut Keys,
+    ) -> Result<(), Fault>
+        ensures { Leaves result keys.new (ask_keys (scope_at self.now) self.now.depth place handle letter (pieces blocks.entry) keys.old) }
     {
         let to = self.scope.allowed(place, handle, letter, keys)?;
         if !undeclared_empty(&to, &blocks.lengths) {
             return Err(KeyCause::UndeclaredBlock.at(place));
         }
         let ends = self.check_branches(handle, &to, blocks, keys)?;
-        common(&ends).ok_or(KeyCause::EndsDiffer.at(place))
+        *keys = common(&ends).ok_or(KeyCause::EndsDiffer.at(place))?;
+        Ok(())
     }
 
-    // The keys after a REPEAT at the place, whose block stands here.
+    // A REPEAT at the place, whose block stands here, leaves the keys as they are.
     #[cycle(blocks)]
-    fn check_repeat(&self, place: u16, block: Block, keys: Keys) -> Result<Keys, Fault>
-        ensures { result ≡ repeat_keys (scope_at self.now) self.now.depth place (piece block.entry) keys }
+    fn check_repeat(&self, place: u16, block: Block, keys: &Keys) -> Result<(), Fault>
+        ensures { Leaves result keys.now (repeat_keys (scope_at self.now) self.now.depth place (piece block.entry) keys.now) }
     {
-        let end = self.check_block(block, keys)?;
-        if end == keys {
-            Ok(keys)
+        let mut end = *keys;
+        self.check_block(block, &mut end)?;
+        if end == *keys {
+            Ok(())
         } else {
             Err(KeyCause::RepeatDiffers.at(place))
         }
     }
 
     #[cycle(blocks)]
-    fn check_command(&self, place: u16, command: Command, keys: Keys) -> Result<Keys, Fault>
-        ensures { result ≡ command_after (scope_at self.now) self.now.depth place (said command.entry) keys }
+    fn check_command(&self, place: u16, command: Command, keys: &mut Keys) -> Result<(), Fault>
+        ensures { Leaves result keys.new (command_after (scope_at self.now) self.now.depth place (said command.entry) keys.old) }
     {
         let scope = self.scope;
         if !scope.in_range(&command) {
@@ -128,24 +133,23 @@ impl Level<'_> {
             Command::Set { .. }
             | Command::Dec { .. }
             | Command::Cue { .. }
-            | Command::Fail { .. } => Ok(keys),
+            | Command::Fail { .. } => Ok(()),
         }
     }
 
-    // The keys at the end of a block, from those at its start.
+    // The keys are those at the start of a block, and then those at its end.
     #[cycle(blocks)]
-    fn check_block(&self, block: Block, start: Keys) -> Result<Keys, Fault>
-        ensures { result ≡ block_keys (scope_at self.now) self.now.depth (piece block.entry) start }
+    fn check_block(&self, block: Block, keys: &mut Keys) -> Result<(), Fault>
+        ensures { Leaves result keys.new (block_keys (scope_at self.now) self.now.depth (piece block.entry) keys.old) }
     {
         // each command says itself how long it is, so no iterator can step over them
         let mut rest = block;
-        let mut keys = start;
         while !rest.bytes.is_empty() {
             let (command, after) = read_command(rest)?;
-            keys = self.check_command(rest.place as u16, command, keys)?;
+            self.check_command(rest.place as u16, command, keys)?;
             rest = after;
         }
-        Ok(keys)
+        Ok(())
     }
 }
 
@@ -155,7 +159,8 @@ pub(crate) fn check_body<'a>(scope: &'a Scope<'a>) -> Result<(), Fault>
 {
     let part = scope.running;
     let level = Level { scope, depth: 1 };
-    let end = level.check_block(scope.body(), part.stations_in())?;
+    let mut end = part.stations_in();
+    level.check_block(scope.body(), &mut end)?;
     if end == part.stations_out() {
         Ok(())
     } else {

@@ -6,4 +6,4 @@ use Rattle.script.proofs.keys.hand_over.Given as goal
 abbrev pub invariant-loop-binding : goal.invariant-loop-binding
 invariant-loop-binding l =
     let n = length l.yielded in
-    hand_over l.fn.keys l.bound (map (λ h. h.leaves) l.handles) ≡ hand_over l.handed (drop n l.bound) (map (λ h. h.leaves) (drop n l.handles))
+    hand_over l.initial.keys l.bound (map (λ h. h.leaves) l.handles) ≡ hand_over l.keys (drop n l.bound) (map (λ h. h.leaves) (drop n l.handles))

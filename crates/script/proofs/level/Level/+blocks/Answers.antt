@@ -1,4 +1,4 @@
-use Rattle.std.proofs.Common.{◌≡◌, suc, ◌≤◌, eqb, List, length, Err, refl, sym, ap, ◌∙◌, inl, inr, arith, le-ltb, rules, None, ◌+◌, [], ◌∷◌, ◌++◌, length-append}
+use Rattle.std.proofs.Common.{◌≡◌, ℕ, suc, ◌≤◌, eqb, List, length, Option, Err, Result, refl, sym, ap, ◌∙◌, inl, inr, arith, le-ltb, rules, None, ◌+◌, [], ◌∷◌, ◌++◌, length-append}
 use Rattle.std.proofs.lemmas.Slice.Zip.{zip_turn}
 use Rattle.std.proofs.lemmas.Bool.Decides.{nat_tests}
 use Rattle.std.specs.Option.{ok_or}
@@ -6,9 +6,11 @@ use lib.Pointwise.{pointwise}
 use Rattle.faults.specs.declared.causes.KeyCause.TheVariants.{EndsDiffer}
 use Rattle.faults.specs.Numbers.{key_fault}
 use Rattle.protocol.proofs.Tests.{is_less}
-use Rattle.rules.specs.Script.{Keys, in_range}
-use Rattle.rules.specs.Check.{join}
+use Rattle.rules.specs.Script.{Keys, Scope, in_range}
+use Rattle.rules.specs.Check.{join, or_fault}
 use Rattle.rules.proofs.Reading.{reads_within}
+use Rattle.faults.specs.declared.fault.Fault.{Fault}
+use Rattle.script.specs.declared.blocks.Blocks.{Blocks}
 use Rattle.script.specs.declared.command.Command.{Command}
 use Rattle.script.specs.declared.command.Command.TheVariants.{Set, Dec, Cue, Fail}
 use Rattle.script.specs.Commands.{said}
@@ -17,7 +19,8 @@ use Rattle.script.specs.Levels.{scope_at}
 use Rattle.script.specs.Pieces.{piece, pieces}
 use Rattle.script.specs.Runs.{run_keys}
 use Rattle.script.specs.Walk.{ask_keys, block_keys, repeat_keys}
-use Rattle.script.proofs.Turns.{passed, or_faulty}
+use Rattle.script.proofs.Turns.{or_faulty}
+use Rattle.script.proofs.Leaving.{refused, left_so}
 use Rattle.script.proofs.Joining.{join_common}
 use Rattle.script.proofs.Testing.{same_turned}
 use Rattle.script.proofs.Walking.{at_end, unread, stops, goes_on, out_of_range, not_so, so, undeclared, stands_too_deep, settled, not_spare, branch_fails, branches_end}
@@ -28,98 +31,120 @@ use Rattle.script.proofs.level.Level.+blocks.Goals as goal
 
 pub check_ask-returns-then-not-undeclared_empty : goal.check_ask-returns-then-not-undeclared_empty
 check_ask-returns-then-not-undeclared_empty t c =
-    ap Err c.at.ensures ∙ sym (not_spare (scope_at c.args.self.now) c.args.self.now.depth c.args.place c.args.handle c.args.letter c.args.keys c.in_ok-to.to c.args.blocks c.in_ok-to.ensures (sym c.undeclared_empty.ensures ∙ c.if-not-undeclared_empty.true))
+    not_spare (scope_at c.args.self.now) c.args.self.now.depth c.args.place c.args.handle c.args.letter c.args.keys.now c.in_ok-to.to c.args.blocks c.in_ok-to.ensures (sym c.undeclared_empty.ensures ∙ c.if-not-undeclared_empty.true)
+    ∙ ap Err (sym c.at.ensures)
 
 pub check_ask-returns-in_err-ends : goal.check_ask-returns-in_err-ends
 check_ask-returns-in_err-ends t c =
-    passed _ _ c.from_residual-in_err-ends.ensures.1
-    ∙ sym (branch_fails (scope_at c.args.self.now) c.args.self.now.depth c.args.place c.args.handle c.args.letter c.args.keys c.in_ok-to.to c.args.blocks c.in_ok-to.ensures (sym c.undeclared_empty.ensures ∙ c.if-not-undeclared_empty.false) _ c.in_err-ends.ensures)
+    refused _ _ _ _ c.from_residual-in_err-ends.ensures.1
+    (branch_fails (scope_at c.args.self.now) c.args.self.now.depth c.args.place c.args.handle c.args.letter c.args.keys.now c.in_ok-to.to c.args.blocks c.in_ok-to.ensures (sym c.undeclared_empty.ensures ∙ c.if-not-undeclared_empty.false) _ c.in_err-ends.ensures)
+
+-- what the blocks end with
+joined : (x : Scope) (d place h l : ℕ) (ks : Keys) (bs : Blocks) (ends : List Keys) (o : Option Keys) (e : Fault) (r : Result Keys Fault) →
+    ask_keys x d place h l (pieces bs) ks ≡ or_fault (join ends) (key_fault EndsDiffer place) → o ≡ common_by (pointwise eqb) ends → e ≡ key_fault EndsDiffer place → r ≡ ok_or o e →
+    ask_keys x d place h l (pieces bs) ks ≡ r
+joined x d place h l ks bs ends o e r asked common at is =
+    asked ∙ or_faulty (join ends) (key_fault EndsDiffer place)
+    ∙ sym (is ∙ (λ i. ok_or ((common ∙ sym (join_common (pointwise eqb) same_turned ends)) i) (at i)))
+
+pub check_ask-returns-in_err-keys : goal.check_ask-returns-in_err-keys
+check_ask-returns-in_err-keys t c =
+    let ends : List Keys = c.in_ok-ends.ends.items in
+    let x = scope_at c.args.self.now in
+    let d = c.args.self.now.depth in
+    let asked = branches_end x d c.args.place c.args.handle c.args.letter c.args.keys.now c.in_ok-to.to c.args.blocks c.in_ok-to.ensures (sym c.undeclared_empty.ensures ∙ c.if-not-undeclared_empty.false) _ c.in_ok-ends.ensures in
+    refused _ _ _ _ c.from_residual-in_err-keys.ensures.1
+    (joined x d c.args.place c.args.handle c.args.letter c.args.keys.now c.args.blocks ends _ _ _ asked (c.common.ensures ∙ ap (common_by (pointwise eqb)) c.deref.ensures.0) c.at-2.ensures c.in_err-keys.ensures.value)
 
 pub check_ask-returns : goal.check_ask-returns
 check_ask-returns t c =
     let ends : List Keys = c.in_ok-ends.ends.items in
-    let end : c.common.result ≡ join ends = c.common.ensures ∙ ap (common_by (pointwise eqb)) c.deref.ensures.0 ∙ sym (join_common (pointwise eqb) same_turned ends) in
-    c.ok_or.ensures.value ∙ (λ i. ok_or (end i) (c.at-2.ensures i)) ∙ sym (or_faulty (join ends) (key_fault EndsDiffer c.args.place))
-    ∙ sym (branches_end (scope_at c.args.self.now) c.args.self.now.depth c.args.place c.args.handle c.args.letter c.args.keys c.in_ok-to.to c.args.blocks c.in_ok-to.ensures (sym c.undeclared_empty.ensures ∙ c.if-not-undeclared_empty.false) _ c.in_ok-ends.ensures)
+    let x = scope_at c.args.self.now in
+    let d = c.args.self.now.depth in
+    let asked = branches_end x d c.args.place c.args.handle c.args.letter c.args.keys.now c.in_ok-to.to c.args.blocks c.in_ok-to.ensures (sym c.undeclared_empty.ensures ∙ c.if-not-undeclared_empty.false) _ c.in_ok-ends.ensures in
+    joined x d c.args.place c.args.handle c.args.letter c.args.keys.now c.args.blocks ends _ _ _ asked (c.common.ensures ∙ ap (common_by (pointwise eqb)) c.deref.ensures.0) c.at-2.ensures c.in_ok-keys.ensures.value
 
 -- A block
 
 pub check_block-returns-in_err-command : goal.check_block-returns-in_err-command
 check_block-returns-in_err-command t c =
     let g = c.in_err-command.ensures in
-    passed _ _ c.from_residual.ensures.1 ∙ ap Err g.1 ∙ sym (c.loop-rest.invariant ∙ unread _ _ _ _ g.0)
+    refused _ _ _ _ c.from_residual.ensures.1 (c.loop-rest.invariant ∙ unread _ _ _ _ g.0 ∙ ap Err (sym g.1))
 
-pub check_block-returns-in_err-keys : goal.check_block-returns-in_err-keys
-check_block-returns-in_err-keys t c =
-    passed _ _ c.from_residual-in_err-keys.ensures.1 ∙ sym (c.loop-rest.invariant ∙ stops _ _ _ _ _ _ _ c.in_ok-command.ensures (sym c.in_err-keys.ensures))
+pub check_block-returns-in_err-check_command : goal.check_block-returns-in_err-check_command
+check_block-returns-in_err-check_command t c =
+    refused _ _ _ _ c.from_residual-in_err-check_command.ensures.1 (c.loop-rest.invariant ∙ stops _ _ _ _ _ _ _ c.in_ok-command.ensures c.in_err-check_command.ensures)
 
 pub check_block-loop-rest-smaller : goal.check_block-loop-rest-smaller
 check_block-loop-rest-smaller t c = (reads_within _ _ _ c.in_ok-command.ensures).rest_shorter
 
 pub check_block-loop-rest-preserved : goal.check_block-loop-rest-preserved
-check_block-loop-rest-preserved t c = c.loop-rest.invariant ∙ goes_on _ _ _ _ _ _ _ c.in_ok-command.ensures (sym c.in_ok-keys.ensures)
+check_block-loop-rest-preserved t c = c.loop-rest.invariant ∙ goes_on _ _ _ _ _ _ _ c.in_ok-command.ensures c.in_ok-check_command.ensures
 
 pub check_block-returns : goal.check_block-returns
 check_block-returns t c =
     let le : length c.loop-rest.rest.bytes.now ≤ 0 = grind (arith, nat_tests) in
-    sym (c.loop-rest.invariant ∙ at_end _ _ _ _ le)
+    c.loop-rest.invariant ∙ at_end _ _ _ _ le
 
 -- A command
 
 pub check_command-returns-then-not-in_range : goal.check_command-returns-then-not-in_range
-check_command-returns-then-not-in_range t c = ap Err c.at.ensures ∙ sym (out_of_range _ _ _ _ _ (not_so (scope_at c.args.self.now) (said c.args.command) (sym c.in_range.ensures ∙ c.if-not-in_range.true)))
+check_command-returns-then-not-in_range t c = out_of_range _ _ _ _ _ (not_so (scope_at c.args.self.now) (said c.args.command) (sym c.in_range.ensures ∙ c.if-not-in_range.true)) ∙ ap Err (sym c.at.ensures)
 
 pub check_command-returns-in_err-inner-in-Ask : goal.check_command-returns-in_err-inner-in-Ask
 check_command-returns-in_err-inner-in-Ask t c =
     let w = c.in_err-inner-in-Ask.ensures in
-    passed _ _ c.from_residual.ensures.1 ∙ ap Err w.1
-    ∙ sym (stands_too_deep _ _ _ _ c.args.command _ c.in-Ask.is (so (scope_at c.args.self.now) c.args.command _ c.in-Ask.is (sym c.in_range.ensures ∙ c.if-not-in_range.false)) (le-ltb c.args.self.now.depth 8 w.0))
+    refused _ _ _ _ c.from_residual.ensures.1
+    (stands_too_deep _ _ _ _ c.args.command _ c.in-Ask.is (so (scope_at c.args.self.now) c.args.command _ c.in-Ask.is (sym c.in_range.ensures ∙ c.if-not-in_range.false)) (le-ltb c.args.self.now.depth 8 w.0) ∙ ap Err (sym w.1))
 
 pub check_command-returns-in_err-inner-in-Repeat : goal.check_command-returns-in_err-inner-in-Repeat
 check_command-returns-in_err-inner-in-Repeat t c =
     let w = c.in_err-inner-in-Repeat.ensures in
-    passed _ _ c.from_residual-in_err-inner-in-Repeat.ensures.1 ∙ ap Err w.1
-    ∙ sym (stands_too_deep _ _ _ _ c.args.command _ c.in-Repeat.is (so (scope_at c.args.self.now) c.args.command _ c.in-Repeat.is (sym c.in_range.ensures ∙ c.if-not-in_range.false)) (le-ltb c.args.self.now.depth 8 w.0))
+    refused _ _ _ _ c.from_residual-in_err-inner-in-Repeat.ensures.1
+    (stands_too_deep _ _ _ _ c.args.command _ c.in-Repeat.is (so (scope_at c.args.self.now) c.args.command _ c.in-Repeat.is (sym c.in_range.ensures ∙ c.if-not-in_range.false)) (le-ltb c.args.self.now.depth 8 w.0) ∙ ap Err (sym w.1))
 
 pub check_command-returns-in_ok-inner-in-Ask : goal.check_command-returns-in_ok-inner-in-Ask
 check_command-returns-in_ok-inner-in-Ask t c =
     let w = c.in_ok-inner-in-Ask.ensures in
-    c.check_ask.ensures ∙ (λ i. ask_keys (w.1 i) (w.2 i) c.args.place c.in-Ask.handle c.in-Ask.letter (pieces c.in-Ask.blocks) c.args.keys)
-    ∙ sym (settled _ _ _ _ c.args.command _ c.in-Ask.is (so (scope_at c.args.self.now) c.args.command _ c.in-Ask.is (sym c.in_range.ensures ∙ c.if-not-in_range.false)) (is_less w.0))
+    left_so _ _ _ _ (settled _ _ _ _ c.args.command _ c.in-Ask.is (so (scope_at c.args.self.now) c.args.command _ c.in-Ask.is (sym c.in_range.ensures ∙ c.if-not-in_range.false)) (is_less w.0)
+    ∙ sym (λ i. ask_keys (w.1 i) (w.2 i) c.args.place c.in-Ask.handle c.in-Ask.letter (pieces c.in-Ask.blocks) c.args.keys.now))
+    c.check_ask.ensures
 
 pub check_command-returns-in_ok-inner-in-Repeat : goal.check_command-returns-in_ok-inner-in-Repeat
 check_command-returns-in_ok-inner-in-Repeat t c =
     let w = c.in_ok-inner-in-Repeat.ensures in
-    c.check_repeat.ensures ∙ (λ i. repeat_keys (w.1 i) (w.2 i) c.args.place (piece c.in-Repeat.block) c.args.keys)
-    ∙ sym (settled _ _ _ _ c.args.command _ c.in-Repeat.is (so (scope_at c.args.self.now) c.args.command _ c.in-Repeat.is (sym c.in_range.ensures ∙ c.if-not-in_range.false)) (is_less w.0))
+    left_so _ _ _ _ (settled _ _ _ _ c.args.command _ c.in-Repeat.is (so (scope_at c.args.self.now) c.args.command _ c.in-Repeat.is (sym c.in_range.ensures ∙ c.if-not-in_range.false)) (is_less w.0)
+    ∙ sym (λ i. repeat_keys (w.1 i) (w.2 i) c.args.place (piece c.in-Repeat.block) c.args.keys.now))
+    c.check_repeat.ensures
 
 pub check_command-returns-in-Send : goal.check_command-returns-in-Send
 check_command-returns-in-Send t c =
-    c.check_send.ensures ∙ sym (settled _ _ _ _ c.args.command _ c.in-Send.is (so (scope_at c.args.self.now) c.args.command _ c.in-Send.is (sym c.in_range.ensures ∙ c.if-not-in_range.false)) refl)
+    left_so _ _ _ _ (settled _ _ _ _ c.args.command _ c.in-Send.is (so (scope_at c.args.self.now) c.args.command _ c.in-Send.is (sym c.in_range.ensures ∙ c.if-not-in_range.false)) refl) c.check_send.ensures
 
 pub check_command-returns-in-Set : goal.check_command-returns-in-Set
 check_command-returns-in-Set t c =
-    let after = λ (v : Command) (e : c.args.command ≡ v). settled (scope_at c.args.self.now) c.args.self.now.depth c.args.place c.args.keys c.args.command v e in
+    let after = λ (v : Command) (e : c.args.command ≡ v). settled (scope_at c.args.self.now) c.args.self.now.depth c.args.place c.args.keys.now c.args.command v e in
     let fits = λ (v : Command) (e : c.args.command ≡ v). so (scope_at c.args.self.now) c.args.command v e (sym c.in_range.ensures ∙ c.if-not-in_range.false) in
-    sym (elim c.in-Set.is [
+    elim c.in-Set.is [
       | inl w ↦ after (Set w.0 w.1) w.2 (fits (Set w.0 w.1) w.2) refl
       | inr (inl w) ↦ after (Dec w.0) w.1 (fits (Dec w.0) w.1) refl
       | inr (inr (inl w)) ↦ after (Cue w.0) w.1 refl refl
       | inr (inr (inr w)) ↦ after (Fail w.0) w.1 refl refl
-    ])
+    ]
 
 pub check_command-returns-in_default : goal.check_command-returns-in_default
 check_command-returns-in_default t c =
     let x = scope_at c.args.self.now in
-    ap Err c.at-in_default.ensures ∙ sym (out_of_range x _ _ (said c.args.command) _ (ap (λ (v : Command). in_range x (said v)) c.in-Run.is ∙ c.in_default.ensures))
+    out_of_range x _ _ (said c.args.command) _ (ap (λ (v : Command). in_range x (said v)) c.in-Run.is ∙ c.in_default.ensures) ∙ ap Err (sym c.at-in_default.ensures)
 
 pub check_command-returns-in-Some : goal.check_command-returns-in-Some
 check_command-returns-in-Some t c =
     let x = scope_at c.args.self.now in
     let w = c.in-Some.ensures in
-    c.check.ensures ∙ (λ i. run_keys (w.2 i) c.args.place c.in-Some.run'.part.now (w.3 i) c.args.keys)
-    ∙ sym (settled x _ _ _ c.args.command _ c.in-Run.is w.0 refl
-    ∙ runs c.args.self.now.scope.now c.in-Run.part (block_keys x (suc c.args.self.now.depth)) c.args.place c.in-Run.bindings.now c.args.keys c.in-Some.run'.part.now w.1)
+    left_so _ _ _ _ (settled x _ _ _ c.args.command _ c.in-Run.is w.0 refl
+    ∙ runs c.args.self.now.scope.now c.in-Run.part (block_keys x (suc c.args.self.now.depth)) c.args.place c.in-Run.bindings.now c.args.keys.now c.in-Some.run'.part.now w.1
+    ∙ sym (λ i. run_keys (w.2 i) c.args.place c.in-Some.run'.part.now (w.3 i) c.args.keys.now))
+    c.check.ensures
 
 -- Branches
 
@@ -127,6 +152,6 @@ pub check_branches-loop-to-preserved : goal.check_branches-loop-to-preserved
 check_branches-loop-to-preserved t c =
     let here = zip_turn c.args.to.now c.by_answer-branches.result c.loop-to.yielded _ c.loop-to.to-iterator c.next.new.self c.next.result (search rules) (search rules) c.loop-to.yielded_by (c.in-Some.to, c.in-Some.block) c.in-Some.is c.next.ensures.steps in
     let one_more : length (c.loop-to.yielded ++ ((c.in-Some.to, c.in-Some.block) ∷ [])) ≡ length c.loop-to.yielded + 1 = length-append c.loop-to.yielded ((c.in-Some.to, c.in-Some.block) ∷ []) in (
-      c.loop-to.invariant.0 ∙ undeclared (block_keys (scope_at c.args.self.now) c.args.self.now.depth) c.args.keys c.args.handle c.loop-to.ends.items c.args.to.now (pieces c.args.blocks) (length c.loop-to.yielded) _ here.0 (sym (here.2 None) ∙ c.in_default.is) one_more,
+      c.loop-to.invariant.0 ∙ undeclared (block_keys (scope_at c.args.self.now) c.args.self.now.depth) c.args.keys.now c.args.handle c.loop-to.ends.items c.args.to.now (pieces c.args.blocks) (length c.loop-to.yielded) _ here.0 (sym (here.2 None) ∙ c.in_default.is) one_more,
       omega (arith, one_more, c.loop-to.invariant.1),
     )

@@ -13,6 +13,6 @@ returns c =
     let bs = c.args.self.now.bindings in
     let eight : length bs ≡ 8 = search rules in
     let eight' : length p.handles ≡ 8 = search rules in
-    let all : c.all.result ≡ list_all (one_suits q c.args.keys p bs) (zip (take p.own bs) p.handles) =
-    all_from_yields_List (one_suits q c.args.keys p bs) c.all.new.self _ c.all.result c.all.ensures.ran (YieldsList-from_zip (YieldsList-from_slice {s = zip_first c.zip.result} (take p.own bs) (cc)) (YieldsList-from_slice {s = zip_second c.zip.result} p.handles (cc))) (λ x b q k. search (rules, tests)) in
-    all ∙ all_suit q c.args.keys p bs eight eight'
+    let all : c.all.result ≡ list_all (one_suits q c.args.keys.now p bs) (zip (take p.own bs) p.handles) =
+    all_from_yields_List (one_suits q c.args.keys.now p bs) c.all.new.self _ c.all.result c.all.ensures.ran (YieldsList-from_zip (YieldsList-from_slice {s = zip_first c.zip.result} (take p.own bs) (cc)) (YieldsList-from_slice {s = zip_second c.zip.result} p.handles (cc))) (λ x b q k. search (rules, tests)) in
+    all ∙ all_suit q c.args.keys.now p bs eight eight'
