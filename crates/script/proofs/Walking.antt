@@ -1,5 +1,5 @@
 -- The laws of the check of a block: by its first command and the rest.
-use Rattle.std.proofs.Common.{◌≡◌, ℕ, suc, ◌+◌, ◌<◌, ◌≤◌, true, false, List, [], ◌∷◌, ◌++◌, length, get_or, drop, None, Ok, Err, Option, Result, sym, refl, ap, ◌∙◌, true≢false, arith, drop-cons, drop-drop}
+use Rattle.std.proofs.Common.{◌≡◌, ℕ, suc, ◌+◌, ◌<◌, true, false, List, ◌∷◌, ◌++◌, length, get_or, drop, None, Ok, Err, Option, Result, sym, ap, ◌∙◌, true≢false, arith, drop-cons, drop-drop}
 use Rattle.faults.specs.declared.fault.Fault.{Fault}
 use Rattle.faults.specs.declared.causes.LayoutCause.TheVariants.{BadCommand, OutOfRange, TooDeep}
 use Rattle.faults.specs.declared.causes.KeyCause.TheVariants.{NotAllowed, UndeclaredBlock, EndsDiffer, BodyEnd}
@@ -11,7 +11,6 @@ use Rattle.rules.specs.Lists.{same}
 use Rattle.rules.specs.Script.{Block, Command, Read, broken, nothing, command, first, Scope, Keys, at, table_at, in_range, depth_fits, send, ask, repeat, run, store, dec, cue, fail}
 use Rattle.rules.specs.Check.{Checks, branches, check_body, check_read, check_whole, command_keys, join, or_fault, undeclared_empty}
 use Rattle.rules.proofs.Fuel.{unrolls}
-use Rattle.rules.proofs.Reading.{no_first}
 use Rattle.script.specs.declared.command.Command as code
 use Rattle.script.specs.Commands.{in_range_so, said}
 use Rattle.script.specs.declared.blocks.Blocks.{Blocks}
@@ -21,17 +20,13 @@ use Rattle.script.specs.Walk.{allowed_at, ask_keys, block_keys, branch_ends, com
 use Rattle.script.proofs.Joining.{spare_where}
 use Rattle.script.proofs.Turns.{needed_first, unmet, stops as carried}
 
-none : (bs : List ℕ) → length bs ≤ 0 → bs ≡ []
-none [] le = refl
-none (b ∷ bs) le = absurd (omega arith)
-
 module _ (x : Scope) (d : ℕ) (b : Block) (ks : Keys) where
   unrolled : (q : Read) → first b ≡ q → block_keys x d b ks ≡ check_read (check_whole x (suc d)) (check_whole x d) x d b ks q
   unfolding block_keys
   unrolled q e = unrolls x d b ks ∙ ap (check_read (check_whole x (suc d)) (check_whole x d) x d b ks) e
 
-  pub at_end : length b.bytes ≤ 0 → block_keys x d b ks ≡ Ok ks
-  at_end le = unrolled nothing (no_first b (none b.bytes le))
+  pub at_end : first b ≡ nothing → block_keys x d b ks ≡ Ok ks
+  at_end e = unrolled nothing e
 
   pub unread : first b ≡ broken → block_keys x d b ks ≡ Err (layout_fault BadCommand b.place)
   unread e = unrolled broken e

@@ -32,6 +32,11 @@ in_range_so x (dec r) = in_range x (dec r)
 in_range_so x (cue n) = in_range x (cue n)
 in_range_so x (fail c) = in_range x (fail c)
 
+-- the command that the code reads, and the rest, are what the definition reads
+abbrev pub Reads : Option (Command × Block) → rules.Read → Type 0
+Reads None q = q ≡ broken
+Reads (Some x) q = q ≡ command (said x.0) (piece x.1)
+
 -- what the code reads at the place is what the definition reads
 abbrev pub Gives : ℕ → Result (Command × Block) Fault → rules.Read → Type 0
 Gives place (Ok x) q = q ≡ command (said x.0) (piece x.1)

@@ -1,8 +1,8 @@
 // The commands of a body, read from the front of a block.
-ghost use Rattle.std.specs.Prelude.{◌≡◌, ◌<◌, length};
+ghost use Rattle.std.specs.Prelude.{◌≡◌};
 ghost use Rattle.rules.specs.Lists.{joined};
-ghost use Rattle.rules.specs.Script.{first};
-ghost use Rattle.script.specs.Commands.{Begins, Gives, ask_at, repeat_at};
+ghost use Rattle.rules.specs.Script.{code_of, read_operands};
+ghost use Rattle.script.specs.Commands.{Begins, Reads, ask_at, repeat_at};
 ghost use Rattle.script.specs.Pieces.{piece};
 
 use crate::answers::ByAnswer;
@@ -70,23 +70,22 @@ pub(crate) fn word(low: u8, high: u8) -> u16
     u16::from_le_bytes([low, high])
 }
 
-// An ASK at the place, whose blocks begin where the tail does.
+// An ASK whose blocks begin where the tail does.
 fn read_ask<'a>(
-    place: u16,
     handle: u8,
     letter: u8,
     lengths: ByAnswer<u16>,
     tail: Block<'a>,
-) -> Result<(Command<'a>, Block<'a>), Fault>
-    ensures { Gives place result (ask_at handle letter lengths (piece tail.entry)) }
+) -> Option<(Command<'a>, Block<'a>)>
+    ensures { Reads result (ask_at handle letter lengths (piece tail.entry)) }
 {
     let len = total(&lengths);
     if len > tail.bytes.len() {
-        return Err(LayoutCause::BadCommand.at(place));
+        return None;
     }
     let (whole, rest) = tail.cut(len as u16);
     let blocks = Blocks { lengths, whole };
-    Ok((
+    Some((
         Command::Ask {
             handle,
             letter,
@@ -97,19 +96,99 @@ fn read_ask<'a>(
 }
 
 // Measured and cut as an ASK; what is made of it differs.
-fn read_repeat<'a>(
-    place: u16,
-    register: u8,
-    len: u16,
-    tail: Block<'a>,
-) -> Result<(Command<'a>, Block<'a>), Fault>
-    ensures { Gives place result (repeat_at register len (piece tail.entry)) }
+fn read_repeat<'a>(register: u8, len: u16, tail: Block<'a>) -> Option<(Command<'a>, Block<'a>)>
+    ensures { Reads result (repeat_at register len (piece tail.entry)) }
 {
     if len as usize > tail.bytes.len() {
-        return Err(LayoutCause::BadCommand.at(place));
+        return None;
     }
     let (block, rest) = tail.cut(len);
-    Ok((Command::Repeat { register, block }, rest))
+    Some((Command::Repeat { register, block }, rest))
+}
+
+// The command of that first byte whose operands stand at the front of the block, and the rest; None where it is not whole. The byte is
+// tested before the length, which cannot be foreseen where a block is short. Operands are patterns, by a rule of the project.
+#[inline(always)]
+fn read_operands<'a>(opcode: u8, operands: Block<'a>) -> Option<(Command<'a>, Block<'a>)>
+    ensures { Reads result (read_operands (code_of opcode) operands.entry.place operands.entry.bytes.now) }
+{
+    match opcode {
+        SEND => {
+            let [handle, letter, register, rest @ ..] = operands.bytes else {
+                return None;
+            };
+            let send = Command::Send {
+                handle: *handle,
+                letter: *letter,
+                register: *register,
+            };
+            Some((send, operands.behind(rest)))
+        }
+        ASK => {
+            let [handle, letter, a0, a1, b0, b1, c0, c1, d0, d1, tail @ ..] = operands.bytes else {
+                return None;
+            };
+            let lengths = [
+                word(*a0, *a1),
+                word(*b0, *b1),
+                word(*c0, *c1),
+                word(*d0, *d1),
+            ];
+            read_ask(*handle, *letter, lengths, operands.behind(tail))
+        }
+        REPEAT => {
+            let [register, w0, w1, tail @ ..] = operands.bytes else {
+                return None;
+            };
+            read_repeat(*register, word(*w0, *w1), operands.behind(tail))
+        }
+        RUN => {
+            let [part, tail @ ..] = operands.bytes else {
+                return None;
+            };
+            let (bindings, rest) = tail.split_first_chunk::<HANDLES>()?;
+            let run = Command::Run {
+                part: *part,
+                bindings,
+            };
+            Some((run, operands.behind(rest)))
+        }
+        SET => {
+            let [register, value, rest @ ..] = operands.bytes else {
+                return None;
+            };
+            let set = Command::Set {
+                register: *register,
+                value: *value,
+            };
+            Some((set, operands.behind(rest)))
+        }
+        DEC => {
+            let [register, rest @ ..] = operands.bytes else {
+                return None;
+            };
+            let dec = Command::Dec {
+                register: *register,
+            };
+            Some((dec, operands.behind(rest)))
+        }
+        CUE => {
+            let [w0, w1, rest @ ..] = operands.bytes else {
+                return None;
+            };
+            let cue = Command::Cue {
+                number: word(*w0, *w1),
+            };
+            Some((cue, operands.behind(rest)))
+        }
+        FAIL => {
+            let [code, rest @ ..] = operands.bytes else {
+                return None;
+            };
+            Some((Command::Fail { code: *code }, operands.behind(rest)))
+        }
+        _ => None,
+    }
 }
 
 impl<'a> Block<'a> {
@@ -118,90 +197,10 @@ impl<'a> Block<'a> {
     pub fn first(self) -> Option<Result<(Command<'a>, Block<'a>), Fault>>
         ensures { Begins self.entry result }
     {
-        if self.bytes.is_empty() {
-            None
-        } else {
-            Some(read_command(self))
-        }
-    }
-}
-
-// The first command of a block that is not empty, and the rest. Operands are patterns, by a rule of the project.
-#[inline(always)]
-pub(crate) fn read_command<'a>(block: Block<'a>) -> Result<(Command<'a>, Block<'a>), Fault>
-    requires { 0 < length (piece block).bytes }
-    ensures { Gives block.entry.place result (first (piece block.entry)) }
-{
-    let place = block.place as u16;
-    match block.bytes {
-        [SEND, handle, letter, register, rest @ ..] => Ok((
-            Command::Send {
-                handle: *handle,
-                letter: *letter,
-                register: *register,
-            },
-            block.behind(rest),
-        )),
-        [
-            ASK,
-            handle,
-            letter,
-            a0,
-            a1,
-            b0,
-            b1,
-            c0,
-            c1,
-            d0,
-            d1,
-            tail @ ..,
-        ] => read_ask(
-            place,
-            *handle,
-            *letter,
-            [
-                word(*a0, *a1),
-                word(*b0, *b1),
-                word(*c0, *c1),
-                word(*d0, *d1),
-            ],
-            block.behind(tail),
-        ),
-        [REPEAT, register, w0, w1, tail @ ..] => {
-            read_repeat(place, *register, word(*w0, *w1), block.behind(tail))
-        }
-        [RUN, part, tail @ ..] => {
-            let Some((bindings, rest)) = tail.split_first_chunk::<HANDLES>() else {
-                return Err(LayoutCause::BadCommand.at(place));
-            };
-            Ok((
-                Command::Run {
-                    part: *part,
-                    bindings,
-                },
-                block.behind(rest),
-            ))
-        }
-        [SET, register, value, rest @ ..] => Ok((
-            Command::Set {
-                register: *register,
-                value: *value,
-            },
-            block.behind(rest),
-        )),
-        [DEC, register, rest @ ..] => Ok((
-            Command::Dec {
-                register: *register,
-            },
-            block.behind(rest),
-        )),
-        [CUE, w0, w1, rest @ ..] => Ok((
-            Command::Cue {
-                number: word(*w0, *w1),
-            },
-            block.behind(rest),
-        )),
-        [FAIL, code, rest @ ..] => Ok((Command::Fail { code: *code }, block.behind(rest))),
-        _ => Err(LayoutCause::BadCommand.at(place)),
+        let [opcode, operands @ ..] = self.bytes else {
+            return None;
+        };
+        let read = read_operands(*opcode, self.behind(operands));
+        Some(read.ok_or(LayoutCause::BadCommand.at(self.place as u16)))
     }
 }

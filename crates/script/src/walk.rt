@@ -10,7 +10,7 @@ ghost use Rattle.script.specs.Walk.{GivesEnds, Leaves, allowed_at, ask_keys, blo
 use crate::answers::ANSWERS;
 use crate::block::Block;
 use crate::blocks::Blocks;
-use crate::command::{Command, read_command};
+use crate::command::Command;
 use crate::keys::{Keys, at, set_key};
 use crate::level::Level;
 use crate::scope::Scope;
@@ -144,8 +144,8 @@ impl Level<'_> {
     {
         // each command says itself how long it is, so no iterator can step over them
         let mut rest = block;
-        while !rest.bytes.is_empty() {
-            let (command, after) = read_command(rest)?;
+        while let Some(first) = rest.first() {
+            let (command, after) = first?;
             self.check_command(rest.place as u16, command, keys)?;
             rest = after;
         }

@@ -9,7 +9,7 @@ use Rattle.script.proofs.command.read_ask.Goals as goal
 pub returns-then-len-tail : goal.returns-then-len-tail
 returns-then-len-tail c =
     let over : length c.args.tail.bytes.now < total c.args.lengths = omega (arith, sum_total c.args.lengths, c.total-len.ensures) in
-    (ask_broken _ c.args.handle c.args.letter c.args.lengths over, c.at.ensures)
+    ask_broken _ c.args.handle c.args.letter c.args.lengths over
 
 pub invariant_of-blocks : goal.invariant_of-blocks
 invariant_of-blocks c =

@@ -1,19 +1,19 @@
-use Rattle.std.proofs.Common.{◌≡◌, ℕ, suc, ◌≤◌, eqb, List, length, Option, Err, Result, refl, sym, ap, ◌∙◌, inl, inr, arith, le-ltb, rules, None, ◌+◌, [], ◌∷◌, ◌++◌, length-append}
+use Rattle.std.proofs.Common.{◌≡◌, ℕ, suc, eqb, List, length, Option, Err, Result, refl, sym, ap, ◌∙◌, subst, inl, inr, arith, le-ltb, rules, None, ◌+◌, [], ◌∷◌, ◌++◌, length-append}
 use Rattle.std.proofs.lemmas.Slice.Zip.{zip_turn}
-use Rattle.std.proofs.lemmas.Bool.Decides.{nat_tests}
 use Rattle.std.specs.Option.{ok_or}
 use lib.Pointwise.{pointwise}
 use Rattle.faults.specs.declared.causes.KeyCause.TheVariants.{EndsDiffer}
 use Rattle.faults.specs.Numbers.{key_fault}
 use Rattle.protocol.proofs.Tests.{is_less}
-use Rattle.rules.specs.Script.{Keys, Scope, in_range}
+use Rattle.rules.specs.Script.{Keys, Scope, first, in_range}
 use Rattle.rules.specs.Check.{join, or_fault}
 use Rattle.rules.proofs.Reading.{reads_within}
 use Rattle.faults.specs.declared.fault.Fault.{Fault}
+use Rattle.script.specs.declared.block.Block.{Block}
 use Rattle.script.specs.declared.blocks.Blocks.{Blocks}
 use Rattle.script.specs.declared.command.Command.{Command}
 use Rattle.script.specs.declared.command.Command.TheVariants.{Set, Dec, Cue, Fail}
-use Rattle.script.specs.Commands.{said}
+use Rattle.script.specs.Commands.{Gives, said}
 use Rattle.script.specs.Ends.{common_by}
 use Rattle.script.specs.Levels.{scope_at}
 use Rattle.script.specs.Pieces.{piece, pieces}
@@ -66,25 +66,29 @@ check_ask-returns t c =
 
 -- A block
 
+read_so : (b : Block) (r r' : Result (Command × Block) Fault) → Gives b.place r (first (piece b)) → r ≡ r' → Gives b.place r' (first (piece b))
+read_so b r r' g is = subst (λ v. Gives b.place v (first (piece b))) is g
+
 pub check_block-returns-in_err-command : goal.check_block-returns-in_err-command
 check_block-returns-in_err-command t c =
-    let g = c.in_err-command.ensures in
-    refused _ _ _ _ c.from_residual.ensures.1 (c.loop-rest.invariant ∙ unread _ _ _ _ g.0 ∙ ap Err (sym g.1))
+    let g = read_so c.loop-first.rest c.in-Some.first _ c.in-Some.ensures c.in_err-command.was in
+    refused _ _ _ _ c.from_residual.ensures.1 (c.loop-first.invariant ∙ unread _ _ _ _ g.0 ∙ ap Err (sym g.1))
 
 pub check_block-returns-in_err-check_command : goal.check_block-returns-in_err-check_command
 check_block-returns-in_err-check_command t c =
-    refused _ _ _ _ c.from_residual-in_err-check_command.ensures.1 (c.loop-rest.invariant ∙ stops _ _ _ _ _ _ _ c.in_ok-command.ensures c.in_err-check_command.ensures)
+    let g = read_so c.loop-first.rest c.in-Some.first _ c.in-Some.ensures c.in_ok-command.was in
+    refused _ _ _ _ c.from_residual-in_err-check_command.ensures.1 (c.loop-first.invariant ∙ stops _ _ _ _ _ _ _ g c.in_err-check_command.ensures)
 
-pub check_block-loop-rest-smaller : goal.check_block-loop-rest-smaller
-check_block-loop-rest-smaller t c = (reads_within _ _ _ c.in_ok-command.ensures).rest_shorter
+pub check_block-loop-first-smaller : goal.check_block-loop-first-smaller
+check_block-loop-first-smaller t c = (reads_within _ _ _ (read_so c.loop-first.rest c.in-Some.first _ c.in-Some.ensures c.in_ok-command.was)).rest_shorter
 
-pub check_block-loop-rest-preserved : goal.check_block-loop-rest-preserved
-check_block-loop-rest-preserved t c = c.loop-rest.invariant ∙ goes_on _ _ _ _ _ _ _ c.in_ok-command.ensures c.in_ok-check_command.ensures
+pub check_block-loop-first-preserved : goal.check_block-loop-first-preserved
+check_block-loop-first-preserved t c =
+    let g = read_so c.loop-first.rest c.in-Some.first _ c.in-Some.ensures c.in_ok-command.was in
+    c.loop-first.invariant ∙ goes_on _ _ _ _ _ _ _ g c.in_ok-check_command.ensures
 
 pub check_block-returns : goal.check_block-returns
-check_block-returns t c =
-    let le : length c.loop-rest.rest.bytes.now ≤ 0 = grind (arith, nat_tests) in
-    c.loop-rest.invariant ∙ at_end _ _ _ _ le
+check_block-returns t c = c.loop-first.invariant ∙ at_end _ _ _ _ c.in_default.ensures
 
 -- A command
 

@@ -21,12 +21,12 @@ abbrev pub decreases-check_repeat : goal.decreases-check_repeat
 decreases-check_repeat l = 4 * (9 - l.self.now.depth) + 1
 
 -- what is left comes to what the whole comes to
-abbrev pub invariant-check_block-loop-rest : goal.invariant-check_block-loop-rest
-invariant-check_block-loop-rest l =
+abbrev pub invariant-check_block-loop-first : goal.invariant-check_block-loop-first
+invariant-check_block-loop-first l =
     block_keys (scope_at l.self) l.self.depth (piece l.block) l.initial.keys ≡ block_keys (scope_at l.self) l.self.depth (piece l.rest) l.keys
 
-abbrev pub decreases-check_block-loop-rest : goal.decreases-check_block-loop-rest
-decreases-check_block-loop-rest l = length l.rest.bytes.now
+abbrev pub decreases-check_block-loop-first : goal.decreases-check_block-loop-first
+decreases-check_block-loop-first l = length l.rest.bytes.now
 
 -- behind the blocks so far
 abbrev pub invariant-check_branches-loop-to : goal.invariant-check_branches-loop-to
