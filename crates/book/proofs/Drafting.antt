@@ -7,7 +7,6 @@ use Rattle.std.proofs.lemmas.List.Folds.{list_any-append}
 use Rattle.arrayvec.specs.ArrayVec.{ArrayVec}
 use Rattle.faults.proofs.Results.{met}
 use Rattle.protocol.specs.declared.edges.Edge.{Edge}
-use Rattle.protocol.specs.declared.table.EdgeTable.{EdgeTable}
 use Rattle.protocol.specs.Tables.{leads, table_of, edge_in_range}
 use Rattle.protocol.specs.Slots.{table_in}
 use Rattle.protocol.proofs.Tests.{same_number}
@@ -17,13 +16,13 @@ use Rattle.book.specs.declared.automaton.Retreat.{Retreat}
 use Rattle.book.specs.declared.automaton.Automaton.{Automaton}
 use Rattle.book.specs.declared.draft.Placed.{Placed}
 use Rattle.book.specs.declared.draft.Draft as code
-use Rattle.book.specs.Automata.{retreats_of, retreat_count}
+use Rattle.book.specs.Automata.{edges_of, retreats_of, retreat_count}
 use Rattle.book.specs.Kinds.{retreat_of, retreat_in_range}
 use Rattle.book.specs.Reading.{Draft, unplaced, edge_added, retreat_added, add_edge, add_retreat}
 use Rattle.book.specs.Shown.{Drafts, names}
 use Rattle.book.proofs.Giving.{ok_and}
 
-none_of : {X : Type 0} (o : Option X) → not (is_some o) ≡ true → o ≡ None
+pub none_of : {X : Type 0} (o : Option X) → not (is_some o) ≡ true → o ≡ None
 none_of None e = refl
 none_of (Some x) e = cc
 
@@ -39,11 +38,11 @@ names_more es e s = list_any-append (λ x. eqb x.from s || eqb x.to s) es (e ∷
 marked : (ns : List Bool) (i s : ℕ) → i < length ns → get_or (set ns i true) s false ≡ (eqb i s || get_or ns s false)
 marked ns i s lt = grind (arith, common_steps, nat_tests)
 
-module _ (d : code.Draft) (x : Draft) (t : EdgeTable) (e : Edge) (i j : ℕ) (placed : length d.retreats.items ≡ retreat_count d.automaton) where
+module _ (d : code.Draft) (x : Draft) (m : Automaton) (e : Edge) (i j : ℕ) (placed : length d.retreats.items ≡ retreat_count m) where
   abbrev pub with_edge : code.Draft
   with_edge = record {
     place = d.place;
-    automaton = record { edges = t; retreats = d.automaton.retreats };
+    automaton = m;
     named = set (set d.named i true) j true;
     retreats = d.retreats;
     placed = placed;
@@ -51,9 +50,10 @@ module _ (d : code.Draft) (x : Draft) (t : EdgeTable) (e : Edge) (i j : ℕ) (pl
 
   edge_drafts : Drafts d x → i ≡ e.from → j ≡ e.to → length d.named ≡ 16 → edge_in_range e ≡ true →
       table_of x.edges e.from e.letter e.answer ≡ None →
-      ((s l a : ℕ) → table_in t s l a ≡ cond (leads e s l a) (Some e.to) (table_in d.automaton.edges s l a)) →
+      m.retreats ≡ d.automaton.retreats →
+      ((s l a : ℕ) → edges_of m s l a ≡ cond (leads e s l a) (Some e.to) (edges_of d.automaton s l a)) →
       Drafts with_edge (edge_added x e)
-  edge_drafts w from to len ok new after =
+  edge_drafts w from to len ok new same after =
       let r = edge_ranged e ok in
       record {
         place = w.place;
@@ -62,7 +62,7 @@ module _ (d : code.Draft) (x : Draft) (t : EdgeTable) (e : Edge) (i j : ℕ) (pl
               after s l a
               ∙ ap (λ (o : Option ℕ). cond (leads e s l a) (Some e.to) o) (w.shows.edges s l a)
               ∙ sym (table_added x.edges e new s l a);
-          retreats = w.shows.retreats;
+          retreats = λ s. ap (λ (rs : List (Option Retreat)). get_or rs s None) same ∙ w.shows.retreats s;
         };
         named = λ s.
             marked (set d.named i true) j s (omega (arith, length-set d.named i true, to, r.3))
@@ -74,15 +74,16 @@ module _ (d : code.Draft) (x : Draft) (t : EdgeTable) (e : Edge) (i j : ℕ) (pl
 
   -- so an edge that is in range and new is added
   pub edge_gives : (place : ℕ) → Drafts d x → i ≡ e.from → j ≡ e.to → length d.named ≡ 16 → edge_in_range e ≡ true →
-      not (is_some (table_in d.automaton.edges e.from e.letter e.answer)) ≡ true →
-      ((s l a : ℕ) → table_in t s l a ≡ cond (leads e s l a) (Some e.to) (table_in d.automaton.edges s l a)) →
+      not (is_some (edges_of d.automaton e.from e.letter e.answer)) ≡ true →
+      m.retreats ≡ d.automaton.retreats →
+      ((s l a : ℕ) → edges_of m s l a ≡ cond (leads e s l a) (Some e.to) (edges_of d.automaton s l a)) →
       IsOkAnd (add_edge x place e) (λ y. Drafts with_edge y)
-  edge_gives place w from to len ok vacant after =
+  edge_gives place w from to len ok vacant same after =
       let old = w.shows.edges e.from e.letter e.answer in
       let new : table_of x.edges e.from e.letter e.answer ≡ None = sym old ∙ none_of _ vacant in
       ok_and _ (edge_added x e) (add_edge x place e)
       (met _ _ _ ok ∙ met _ _ _ (ap (λ (o : Option ℕ). not (is_some o)) new))
-      (edge_drafts w from to len ok new after)
+      (edge_drafts w from to len ok new same after)
 
 -- Retreats
 

@@ -1,4 +1,5 @@
 mod Lookups
+pub mod Joint
 mod Entering
 mod Closing
 pub mod Passed

@@ -3,6 +3,7 @@ pub mod Commands
 pub mod Reading
 pub mod Lawful
 pub mod Home
+pub mod Leads
 pub mod Automata
 pub mod Shown
 pub mod Held

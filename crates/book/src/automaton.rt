@@ -1,10 +1,13 @@
 // A kind of device as an automaton, by tables.
 ghost use Rattle.std.specs.Prelude.{◌≡◌, ℕ, ◌+◌, ◌≤◌, not, ◌&&◌, is_some, if◌then◌else◌, Some, ◌==◌};
-ghost use Rattle.book.specs.Automata.{IsEmpty, edges_of, retreat_count, retreats_of};
+ghost use Rattle.protocol.specs.Slots.{table_in};
+ghost use Rattle.protocol.specs.Tables.{edge_in_range, leads, successors};
 ghost use Rattle.book.specs.Kinds.{falls, nearer, rank_of, retreat_in_range};
+ghost use Rattle.book.specs.Leads.{joint, leads_in};
 
+use crate::leads::{Leads, LeadsTable};
 use arrayvec::ArrayVec;
-use protocol::{ANSWERS, EdgeTable, LETTERS, STATIONS};
+use protocol::{ANSWERS, Edge, EdgeTable, LETTERS, STATIONS};
 
 // Ranks are 0 to 15.
 const RANKS: u8 = 16;
@@ -30,8 +33,11 @@ impl Retreat {
 #[derive(Clone, Copy)]
 pub struct Automaton {
     pub edges: EdgeTable,
+    // joined as the edges come
+    leads: LeadsTable,
     // by station
     pub retreats: [Option<Retreat>; 16],
+    ghost joined: { (s l : ℕ) → leads_in leads s l ≡ joint (successors (table_in edges) s l) },
 }
 
 // By the numbers of their kinds.
@@ -39,17 +45,22 @@ pub type Automata = ArrayVec<Automaton, 8>;
 
 // By hand: its contract says that there are no edges and no retreats, where a derived one would list field values.
 impl Default for Automaton {
+    ghost use Rattle.book.specs.Automata.{IsEmpty};
+
     ghost is_default = { IsEmpty };
 
     fn default() -> Automaton {
         Automaton {
             edges: EdgeTable::new(),
+            leads: LeadsTable::new(),
             retreats: [None; 16],
         }
     }
 }
 
 impl Automaton {
+    ghost use Rattle.book.specs.Automata.{edges_of, retreat_count, retreats_of};
+
     pub(crate) fn retreat(&self, station: u8) -> Option<Retreat>
         ensures { result ≡ retreats_of self.now station }
     {
@@ -77,6 +88,26 @@ impl Automaton {
     {
         self.edges.allowed(retreat.station, retreat.letter)
             && (0..ANSWERS).all(|answer| self.nears(retreat, answer))
+    }
+
+    // Where all the answers to a letter lead; nowhere outside the ranges.
+    pub(crate) fn leads(&self, station: u8, letter: u8) -> Leads
+        ensures { result ≡ joint (successors (edges_of self.now) station letter) }
+    {
+        self.leads.leads(station, letter)
+    }
+
+    // Takes in an edge as a table does.
+    pub(crate) fn add_edge(&mut self, edge: Edge) -> bool
+        ensures answer { result ≡ (edge_in_range edge && not (is_some (edges_of self.old edge.from edge.letter edge.answer))) }
+        ensures after { (s l a : ℕ) → edges_of self.new s l a ≡ (if result && leads edge s l a then Some edge.to else edges_of self.old s l a) }
+        ensures retreats { self.new.retreats ≡ self.old.retreats }
+    {
+        let new = self.edges.declare(edge);
+        if new {
+            self.leads.join(edge.from, edge.letter, edge.to);
+        }
+        new
     }
 
     // Takes in a retreat that is in range and new; any other changes nothing. True where it was taken in, as of a set's

@@ -50,7 +50,7 @@ impl Draft {
         if !edge.in_range() {
             return Err(BookCause::OutOfRange.at(place));
         }
-        if !self.automaton.edges.declare(edge) {
+        if !self.automaton.add_edge(edge) {
             return Err(BookCause::DeclaredTwice.at(place));
         }
         self.named[usize::from(edge.from)] = true;

@@ -1,5 +1,5 @@
 // The house book, and refusals that leave it held.
-use crate::Book;
+use crate::{Book, Leads};
 use std::test::Fail;
 
 const HOUSE: [u8; 68] = [
@@ -17,6 +17,10 @@ fn the_house_book(rt: HostRuntime) -> Result<(), Fail> {
     assert_eq!(rt; book.edge(0, 2, 3, 2), Some(1));
     assert_eq!(rt; book.edge(0, 2, 3, 3), None);
     assert_eq!(rt; book.edge(1, 2, 3, 2), None);
+    assert_eq!(rt; book.leads(0, 2, 3), Leads::Apart);
+    assert_eq!(rt; book.leads(0, 4, 5), Leads::To(3));
+    assert_eq!(rt; book.leads(0, 4, 3), Leads::Nowhere);
+    assert_eq!(rt; book.leads(1, 2, 3), Leads::Nowhere);
     assert_eq!(rt; book.retreat_letter(0, 4), Some(5));
     assert_eq!(rt; book.retreat_letter(0, 0), None);
     assert_eq!(rt; book.rank(0, 4), Some(3));

@@ -2,16 +2,18 @@
 ghost use Rattle.std.specs.Prelude.{◌≡◌, ℕ, ◌≤◌, [], length, is_ok, is_some, if◌then◌else◌, Ok, MatchOption, OnErr, nat_lt};
 ghost use Rattle.std.specs.Option.{option_map};
 ghost use Rattle.protocol.specs.Slots.{table_in};
-ghost use Rattle.protocol.specs.Tables.{table_of};
+ghost use Rattle.protocol.specs.Tables.{successors, table_of};
 ghost use Rattle.book.specs.Automata.{Shows};
 ghost use Rattle.book.specs.Held.{bytes_of, kind_held, kinds_held, rank_held};
 ghost use Rattle.book.specs.Kinds.{no_kind, retreat_of};
+ghost use Rattle.book.specs.Leads.{joint};
 ghost use Rattle.book.specs.Lawful.{BookDecides};
 ghost use Rattle.book.specs.Home.{RetreatsLeadHome};
 ghost use Rattle.book.specs.Reading.{read_book, verdict};
 
 use super::Book;
 use crate::automaton::{Automata, Automaton};
+use crate::leads::Leads;
 use crate::reader::Reader;
 use faults::Fault;
 use protocol::{AWAY, EdgeTable};
@@ -69,6 +71,16 @@ impl<'a> Book<'a> {
         ensures shows { MatchOption result (kind_held self.now kind ≡ no_kind) (λ t. (s l a : ℕ) → table_in t.now s l a ≡ table_of (kind_held self.now kind).edges s l a) }
     {
         Some(&self.automaton(kind)?.edges)
+    }
+
+    // Where all the answers to a letter lead from a station of a kind; nowhere outside the ranges.
+    pub fn leads(&self, kind: u8, station: u8, letter: u8) -> Leads
+        ensures { result ≡ joint (successors (table_of (kind_held self.now kind).edges) station letter) }
+    {
+        match self.automaton(kind) {
+            Some(automaton) => automaton.leads(station, letter),
+            None => Leads::Nowhere,
+        }
     }
 
     // Where an edge of a kind leads; none outside the ranges.
