@@ -6,7 +6,7 @@ use Rattle.protocol.specs.Lists.{all}
 use Rattle.protocol.proofs.Tests.{other_numbers}
 use Rattle.rules.specs.Lists.{empty, same, total}
 use Rattle.rules.specs.Script.{Keys, cut}
-use Rattle.rules.specs.Check.{agreed, agrees, join, undeclared_empty}
+use Rattle.rules.specs.Check.{join, undeclared_empty}
 use Rattle.script.specs.Ends.{all_spare, common_by}
 
 module _ (test : Keys → Keys → Bool) (is_same : (a b : Keys) → test b a ≡ same a b) where
@@ -42,17 +42,5 @@ common_first test [] x r lt e q = absurd (omega arith)
 common_first test (y ∷ ys) x r lt e q = ap (λ z. cond (list_all (λ v. test v z) ys) (Some z) None) (sym e) ∙ ap (λ b. cond b (Some x) None) (sym q) ∙ by r
   where
     by : (b : Bool) → cond b (Some x) None ≡ then_some b x
-    by true = refl
-    by false = refl
-
-all_agree : (t : ℕ) (ts : List (Option ℕ)) → all (agrees t) ts ≡ list_all (agrees t) ts
-all_agree t [] = refl
-all_agree t (u ∷ ts) = ap (λ b. agrees t u && b) (all_agree t ts)
-
-pub agreed_first : (ts : List (Option ℕ)) (t : ℕ) (r : Bool) → 0 < length ts → get_or ts 0 None ≡ Some t → r ≡ list_all (agrees t) (drop 1 ts) → agreed ts ≡ then_some r t
-agreed_first [] t r lt e q = absurd (omega arith)
-agreed_first (u ∷ us) t r lt e q = ap (λ v. agreed (v ∷ us)) e ∙ ap (λ b. cond b (Some t) None) (all_agree t us ∙ sym q) ∙ by r
-  where
-    by : (b : Bool) → cond b (Some t) None ≡ then_some b t
     by true = refl
     by false = refl

@@ -1,12 +1,14 @@
 // Where a body is checked.
 ghost use Rattle.std.specs.Prelude.{◌+◌, ◌≤◌, length};
 
+use crate::answers::ANSWERS;
 use crate::block::Block;
 use crate::command::Command;
 use crate::draft::Draft;
 use crate::part::{HANDLES, Part};
 use crate::run::Run;
 use crate::successors::Successors;
+use book::Leads;
 use protocol::LETTERS;
 
 // Registers are 0 to 7.
@@ -24,6 +26,7 @@ pub struct Scope<'a> {
 impl<'a> Scope<'a> {
     ghost use Rattle.std.specs.Prelude.{◌≡◌};
     ghost use Rattle.protocol.specs.Tables.{successors as successors_of};
+    ghost use Rattle.book.specs.Leads.{joint};
     ghost use Rattle.rules.specs.Script.{table_at};
     ghost use Rattle.script.specs.Commands.{in_range_so, said};
     ghost use Rattle.script.specs.Pieces.{piece};
@@ -40,9 +43,18 @@ impl<'a> Scope<'a> {
     pub(crate) fn successors(&self, handle: u8, station: u8, letter: u8) -> Successors
         ensures { result ≡ successors_of (table_at (scope_of self.now) handle) station letter }
     {
+        match self.draft.book.table(self.running.kind(handle)) {
+            Some(table) => table.successors(station, letter),
+            None => [None; ANSWERS],
+        }
+    }
+
+    // Where all the answers to a letter lead the device of a handle.
+    pub(crate) fn leads(&self, handle: u8, station: u8, letter: u8) -> Leads
+        ensures { result ≡ joint (successors_of (table_at (scope_of self.now) handle) station letter) }
+    {
         let kind = self.running.kind(handle);
-        let book = self.draft.book;
-        [0, 1, 2, 3].map(|answer| book.edge(kind, station, letter, answer))
+        self.draft.book.leads(kind, station, letter)
     }
 
     // The RUN of a part that may be run, with bindings that fit.

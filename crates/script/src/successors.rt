@@ -1,7 +1,6 @@
 // Where the answers to a letter lead, and what values have in common.
 ghost use Rattle.std.specs.Prelude.{◌≡◌, is_some};
 ghost use Rattle.std.specs.List.{list_any};
-ghost use Rattle.rules.specs.Check.{agreed, agrees};
 ghost use Rattle.script.specs.Ends.{all_spare, common_by};
 
 use crate::answers::ByAnswer;
@@ -13,29 +12,6 @@ pub(crate) fn some_declared(to: &Successors) -> bool
     ensures { result ≡ list_any is_some to.now }
 {
     to.iter().any(|to| to.is_some())
-}
-
-fn agrees(station: u8, to: Option<u8>) -> bool
-    ensures { result ≡ agrees station to }
-{
-    match to {
-        Some(other) => other == station,
-        None => true,
-    }
-}
-
-// The one station to which all the declared answers lead, if there are any.
-pub(crate) fn agreed(to: &[Option<u8>]) -> Option<u8>
-    ensures { result ≡ agreed to.now }
-{
-    match to {
-        [Some(station), rest @ ..] => {
-            let same = rest.iter().all(|to| agrees(*station, *to));
-            same.then_some(*station)
-        }
-        [None, rest @ ..] => agreed(rest),
-        [] => None,
-    }
 }
 
 // The block of an answer that is not declared is empty.

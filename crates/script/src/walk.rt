@@ -14,8 +14,9 @@ use crate::command::Command;
 use crate::keys::{Keys, at, set_key};
 use crate::level::Level;
 use crate::scope::Scope;
-use crate::successors::{Successors, agreed, common, some_declared, undeclared_empty};
+use crate::successors::{Successors, common, some_declared, undeclared_empty};
 use arrayvec::ArrayVec;
+use book::Leads;
 use faults::{Fault, KeyCause, Layer, LayoutCause};
 
 impl Scope<'_> {
@@ -35,10 +36,14 @@ impl Scope<'_> {
     fn check_send(&self, place: u16, handle: u8, letter: u8, keys: &mut Keys) -> Result<(), Fault>
         ensures { Leaves result keys.new (send_keys (scope_of self.now) place handle letter keys.old) }
     {
-        let to = self.allowed(place, handle, letter, keys)?;
-        let station = agreed(&to).ok_or(KeyCause::AnswersDiffer.at(place))?;
-        set_key(keys, handle, station);
-        Ok(())
+        match self.leads(handle, at(keys, handle), letter) {
+            Leads::Nowhere => Err(KeyCause::NotAllowed.at(place)),
+            Leads::Apart => Err(KeyCause::AnswersDiffer.at(place)),
+            Leads::To(station) => {
+                set_key(keys, handle, station);
+                Ok(())
+            }
+        }
     }
 }
 
