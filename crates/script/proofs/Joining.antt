@@ -6,7 +6,8 @@ use Rattle.protocol.specs.Lists.{all}
 use Rattle.protocol.proofs.Tests.{other_numbers}
 use Rattle.rules.specs.Lists.{empty, same, total}
 use Rattle.rules.specs.Script.{Keys, cut}
-use Rattle.rules.specs.Check.{agreed, agrees, join, undeclared_empty}
+use Rattle.book.specs.Leads.{agreed, agrees}
+use Rattle.rules.specs.Check.{join, undeclared_empty}
 use Rattle.script.specs.Ends.{all_spare, common_by}
 
 module _ (test : Keys → Keys → Bool) (is_same : (a b : Keys) → test b a ≡ same a b) where

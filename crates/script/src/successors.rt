@@ -1,7 +1,7 @@
 // Where the answers to a letter lead, and what values have in common.
 ghost use Rattle.std.specs.Prelude.{◌≡◌, is_some};
 ghost use Rattle.std.specs.List.{list_any};
-ghost use Rattle.rules.specs.Check.{agreed, agrees};
+ghost use Rattle.book.specs.Leads.{agreed, agrees};
 ghost use Rattle.script.specs.Ends.{all_spare, common_by};
 
 use crate::answers::ByAnswer;

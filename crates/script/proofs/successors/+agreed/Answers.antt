@@ -4,7 +4,7 @@ use Rattle.std.proofs.lemmas.List.{take_rest}
 use Rattle.std.proofs.lemmas.Iterator.{YieldsList-from_slice}
 use Rattle.std.proofs.lemmas.Iterator.Search.{all_from_yields_List}
 use Rattle.std.proofs.lemmas.Bool.Decides.{nat_tests}
-use Rattle.rules.specs.Check.{agrees}
+use Rattle.book.specs.Leads.{agrees}
 use Rattle.script.proofs.Joining.{agreed_first}
 use Rattle.script.proofs.successors.+agreed.Goals as goal
 
