@@ -1,5 +1,5 @@
 -- A SEND, by where all the answers to its letter lead.
-use Rattle.std.proofs.Common.{◌≡◌, ℕ, Bool, true, false, ◌||◌, is_some, Some, None, Ok, Err, Option, sym, ap, ◌∙◌, refl}
+use Rattle.std.proofs.Common.{◌≡◌, ℕ, Bool, true, false, ◌||◌, is_some, Some, None, Ok, Err, List, Option, ap, ◌∙◌, refl}
 use Rattle.std.specs.List.{list_any}
 use Rattle.faults.specs.declared.causes.KeyCause.TheVariants.{NotAllowed, AnswersDiffer}
 use Rattle.faults.specs.Numbers.{key_fault}
@@ -29,14 +29,18 @@ module _ (x : Scope) (place h l : ℕ) (ks : Keys) where
   abbrev table : Table
   table = table_at x h
 
-  pub not_allowed : joint (successors table (at ks h) l) ≡ Nowhere → send_keys x place h l ks ≡ Err (key_fault NotAllowed place)
-  not_allowed e = unmet (allowed table (at ks h) l) (key_fault NotAllowed place) _ (is_allowed table (at ks h) l ∙ nowhere_none _ e)
+  -- where its answers lead
+  abbrev to : List (Option ℕ)
+  to = successors table (at ks h) l
 
-  by_agreed : (o : Option ℕ) → allowed table (at ks h) l ≡ true → agreed (successors table (at ks h) l) ≡ o → send_keys x place h l ks ≡ (or_fault o (key_fault AnswersDiffer place) >>= (λ t. Ok (slice_set ks h t)))
+  pub not_allowed : joint to ≡ Nowhere → send_keys x place h l ks ≡ Err (key_fault NotAllowed place)
+  not_allowed e = unmet (allowed table (at ks h) l) (key_fault NotAllowed place) _ (is_allowed table (at ks h) l ∙ nowhere_none to e)
+
+  by_agreed : (o : Option ℕ) → allowed table (at ks h) l ≡ true → agreed to ≡ o → send_keys x place h l ks ≡ (or_fault o (key_fault AnswersDiffer place) >>= (λ t. Ok (slice_set ks h t)))
   by_agreed o ok e = met (allowed table (at ks h) l) (key_fault NotAllowed place) _ ok ∙ ap (λ v. or_fault v (key_fault AnswersDiffer place) >>= (λ t. Ok (slice_set ks h t))) e
 
-  pub differ : joint (successors table (at ks h) l) ≡ Apart → send_keys x place h l ks ≡ Err (key_fault AnswersDiffer place)
-  differ e = let w = apart_differ _ e in by_agreed None (is_allowed table (at ks h) l ∙ w.0) w.1
+  pub differ : joint to ≡ Apart → send_keys x place h l ks ≡ Err (key_fault AnswersDiffer place)
+  differ e = let w = apart_differ to e in by_agreed None (is_allowed table (at ks h) l ∙ w.0) w.1
 
-  pub moves : (t : ℕ) → joint (successors table (at ks h) l) ≡ To t → send_keys x place h l ks ≡ Ok (slice_set ks h t)
-  moves t e = let w = to_agreed _ t e in by_agreed (Some t) (is_allowed table (at ks h) l ∙ w.0) w.1
+  pub moves : (t : ℕ) → joint to ≡ To t → send_keys x place h l ks ≡ Ok (slice_set ks h t)
+  moves t e = let w = to_agreed to t e in by_agreed (Some t) (is_allowed table (at ks h) l ∙ w.0) w.1
