@@ -1,8 +1,9 @@
 -- Where all the answers to a letter lead.
-use Rattle.std.specs.Prelude.{ℕ, ◌+◌, ◌*◌, Bool, true, cond, ◌&&◌, List, [], ◌∷◌, Some, None, Option, ◌==◌, nat_lt, slice_index_or}
+use Rattle.std.specs.Prelude.{ℕ, ◌+◌, ◌*◌, Bool, true, false, cond, ◌&&◌, List, [], ◌∷◌, Some, None, Option, ◌==◌, nat_lt, slice_index_or}
 use Rattle.protocol.specs.Lists.{all}
 use Rattle.book.specs.declared.leads.Leads.{Leads}
 use Rattle.book.specs.declared.leads.Leads.TheVariants.{Nowhere, To, Apart}
+use Rattle.book.specs.declared.leads.Joint.{Joint}
 use Rattle.book.specs.declared.leads.LeadsTable.{LeadsTable}
 
 -- with an answer more, which leads to the station
@@ -33,5 +34,11 @@ agreed (Some t ∷ ts) = cond (all (agrees t) ts) (Some t) None
 abbrev pub slot_of : ℕ → ℕ → ℕ
 slot_of s l = 16 * l + s
 
+abbrev pub shown : Joint → Leads
+shown j = cond j.declared (cond j.apart Apart (To j.to)) Nowhere
+
+abbrev pub undeclared : Joint
+undeclared = record { declared = false; apart = false; to = 0 }
+
 abbrev pub leads_in : LeadsTable → ℕ → ℕ → Leads
-leads_in t s l = cond (nat_lt s 16 && nat_lt l 16) (slice_index_or t.row (slot_of s l) Nowhere) Nowhere
+leads_in t s l = cond (nat_lt s 16 && nat_lt l 16) (shown (slice_index_or t.row (slot_of s l) undeclared)) Nowhere

@@ -1,6 +1,6 @@
 // Where all the answers to a letter lead, kept so that no one has to look them up answer by answer.
 ghost use Rattle.std.specs.Prelude.{◌≡◌, ℕ, ◌+◌, ◌*◌, ◌<◌, ◌&&◌, if◌then◌else◌, nat_eq};
-ghost use Rattle.book.specs.Leads.{joined_with, leads_in, slot_of};
+ghost use Rattle.book.specs.Leads.{joined_with, leads_in, shown, slot_of};
 ghost use Rattle.book.specs.declared.leads.Leads.TheVariants.{Nowhere as nowhere};
 
 use protocol::{LETTERS, STATIONS};
@@ -16,15 +16,48 @@ pub enum Leads {
     Apart,
 }
 
-impl Leads {
-    // With an answer more, which leads to the station.
-    fn joined_with(self, to: u8) -> Leads
-        ensures { result ≡ joined_with to self }
+// The same, while edges come. Which variant of the enum it is could not be foreseen then; these fields are joined without a jump.
+#[derive(Clone, Copy)]
+struct Joint {
+    declared: bool,
+    // they lead to more stations than one
+    apart: bool,
+    // where the last of them leads
+    to: u8,
+}
+
+impl Joint {
+    // All zeros: tables of it are cleared at once.
+    fn new() -> Joint
+        ensures { shown result ≡ nowhere }
     {
-        match self {
-            Leads::Nowhere => Leads::To(to),
-            Leads::To(other) if other == to => self,
-            Leads::To(_) | Leads::Apart => Leads::Apart,
+        Joint {
+            declared: false,
+            apart: false,
+            to: 0,
+        }
+    }
+
+    fn leads(self) -> Leads
+        ensures { result ≡ shown self }
+    {
+        if !self.declared {
+            Leads::Nowhere
+        } else if self.apart {
+            Leads::Apart
+        } else {
+            Leads::To(self.to)
+        }
+    }
+
+    // With an answer more, which leads to the station.
+    fn joined_with(self, to: u8) -> Joint
+        ensures { shown result ≡ joined_with to (shown self) }
+    {
+        Joint {
+            declared: true,
+            apart: self.declared & (self.apart | (self.to != to)),
+            to,
         }
     }
 }
@@ -32,7 +65,7 @@ impl Leads {
 // By letter and station, in one row: the checker takes no array of arrays here.
 #[derive(Clone, Copy)]
 pub struct LeadsTable {
-    row: [Leads; 256],
+    row: [Joint; 256],
 }
 
 fn slot(station: u8, letter: u8) -> usize
@@ -48,7 +81,7 @@ impl LeadsTable {
         ensures { (s l : ℕ) → leads_in result s l ≡ nowhere }
     {
         LeadsTable {
-            row: [Leads::Nowhere; 256],
+            row: [Joint::new(); 256],
         }
     }
 
@@ -57,7 +90,7 @@ impl LeadsTable {
         ensures { result ≡ leads_in self.now station letter }
     {
         if station < STATIONS && letter < LETTERS {
-            self.row[slot(station, letter)]
+            self.row[slot(station, letter)].leads()
         } else {
             Leads::Nowhere
         }
