@@ -7,8 +7,8 @@ use Rattle.console.specs.Lines.{Parsed, blank, book, script, rig, stage, unknown
 use Rattle.console.specs.Plans.{planned}
 
 abbrev pub commanded : Command → Parsed
-commanded (Book v) = book (vec_items v)
-commanded (Script v) = script (vec_items v)
+commanded (Book bytes) = book bytes.now
+commanded (Script bytes) = script bytes.now
 commanded (Rig v) = rig (map planned (vec_items v))
 commanded (Stage command) = stage command
 

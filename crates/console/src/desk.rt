@@ -104,7 +104,7 @@ impl<'a> Desk<'a> {
         &mut self,
         heap: Global,
         number: u64,
-        line: &'a Line,
+        line: &'a Line<'a>,
     ) -> Result<Option<Answer>, AllocError>
         ensures answers { IfOk result (λ answer. Answers number (held_of self.old) (view line.now) answer (entries_for self.new answer) (held_of self.new)) }
         ensures lost { OnErr result (held_of self.new ≡ held_of self.old) }

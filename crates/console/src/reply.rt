@@ -15,7 +15,7 @@ pub fn write_reply(text: &mut String, answer: &Answer, entries: &[Entry]) -> Res
     write_entries(text, entries)
 }
 
-// A go may have thousands: byte by byte is faster than `write!` or a buffer of a line.
+// A go may have more than a thousand: byte by byte is faster than `write!` or a buffer of a line.
 fn write_entries(text: &mut String, entries: &[Entry]) -> Result<(), AllocError>
     ensures { OnOk result (string_bytes text.new ≡ string_bytes text.old ++ flat_map entry_text entries.now) }
 {

@@ -13,31 +13,31 @@ use crate::reply::write_reply;
 use memchr::memchr;
 use std::alloc::{AllocError, Global};
 
-// What the console prints for all of an input.
-pub fn transcript(heap: Global, input: &[u8]) -> Result<String, AllocError>
-    ensures { IfOk result (λ s. Transcript 1 nothing_held (lines_of input.now) (string_bytes s)) }
+// What the console prints for all of an input, whose lines are decoded where they stand.
+pub fn transcript(heap: Global, input: &mut [u8]) -> Result<String, AllocError>
+    ensures { IfOk result (λ s. Transcript 1 nothing_held (lines_of input.old) (string_bytes s)) }
 {
     let lines = parse_lines(heap, input)?;
     answer_lines(heap, &lines)
 }
 
-fn parse_lines(heap: Global, input: &[u8]) -> Result<Vec<Line>, AllocError>
-    ensures { IfOk result (λ v. map view v.items ≡ lines_of input.now) }
+fn parse_lines<'a>(heap: Global, input: &'a mut [u8]) -> Result<Vec<Line<'a>>, AllocError>
+    ensures { IfOk result (λ v. map view v.items ≡ lines_of input.old) }
 {
     let mut lines = Vec::new(heap);
     let mut rest = input;
     // `split` would test byte after byte
     while let Some(end) = memchr(b'\n', rest) {
-        let (row, after) = rest.split_at(end);
+        let (row, after) = rest.split_at_mut(end);
         lines.push(parse_line(heap, row)?)?;
-        rest = &after[1..];
+        rest = &mut after[1..];
     }
     lines.push(parse_line(heap, rest)?)?;
     Ok(lines)
 }
 
 // What is held borrows from the lines: all are parsed before the first is answered.
-fn answer_lines(heap: Global, lines: &[Line]) -> Result<String, AllocError>
+fn answer_lines<'a>(heap: Global, lines: &'a [Line<'a>]) -> Result<String, AllocError>
     ensures { IfOk result (λ s. Transcript 1 nothing_held (map view lines.now) (string_bytes s)) }
 {
     let mut desk = Desk::new();

@@ -11,7 +11,8 @@ use std::test::Fail;
 
 #[test]
 fn answers_line_by_line(rt: HostRuntime) -> Result<(), Fail> {
-    let text = transcript(rt.alloc(), b"# a remark\n\nbook 0\nbook\r\nplay")?;
+    let mut input = *b"# a remark\n\nbook 0\nbook\r\nplay";
+    let text = transcript(rt.alloc(), &mut input)?;
     assert_eq!(rt;
         text.as_str(),
         "line 3: not understood\nbook passed, 0 kinds\nline 5: not understood\n"
@@ -21,9 +22,10 @@ fn answers_line_by_line(rt: HostRuntime) -> Result<(), Fail> {
 
 #[test]
 fn digits_may_be_split(rt: HostRuntime) -> Result<(), Fail> {
-    match parse_line(rt.alloc(), b"\tbook a B\tcD9 0")? {
+    let mut line = *b"\tbook a B\tcD9 0";
+    match parse_line(rt.alloc(), &mut line)? {
         Some(Ok(Command::Book(bytes))) => {
-            assert_eq!(rt; bytes.as_slice(), [0xab, 0xcd, 0x90].as_slice());
+            assert_eq!(rt; bytes, [0xab, 0xcd, 0x90].as_slice());
             Ok(())
         }
         _ => Err(Fail::new("no book")),
@@ -41,10 +43,9 @@ fn a_long_book_is_refused(rt: HostRuntime) -> Result<(), Fail> {
 
 #[test]
 fn a_rig_is_held_until_another_is(rt: HostRuntime) -> Result<(), Fail> {
-    let text = transcript(
-        rt.alloc(),
-        b"ports\nrig trail/projector:02 projector\nrig patch=10101010101010101010101010101010/projector\nports\n",
-    )?;
+    let mut input =
+        *b"ports\nrig trail/projector:02 projector\nrig patch=10101010101010101010101010101010/projector\nports\n";
+    let text = transcript(rt.alloc(), &mut input)?;
     assert_eq!(rt;
         text.as_str(),
         "line 1: not understood\nrig 2 ports\nrig refused 31 at 65535\nport 0 station 0, heard 0\nport 1 station 0, heard 0\n"
@@ -54,10 +55,8 @@ fn a_rig_is_held_until_another_is(rt: HostRuntime) -> Result<(), Fail> {
 
 #[test]
 fn a_player_is_asked(rt: HostRuntime) -> Result<(), Fail> {
-    let text = transcript(
-        rt.alloc(),
-        b"player\nbegin\nrig projector\nbegin\nlook 0\ngo 1 120\nstrike 4097\n",
-    )?;
+    let mut input = *b"player\nbegin\nrig projector\nbegin\nlook 0\ngo 1 120\nstrike 4097\n";
+    let text = transcript(rt.alloc(), &mut input)?;
     assert_eq!(rt;
         text.as_str(),
         "player new\nline 2: not understood\nrig 1 ports\nbegin refused 24 at 65535\nlook refused 31 at 0\ngo refused 27 at 65535\nline 7: not understood\n"

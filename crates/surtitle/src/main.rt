@@ -45,7 +45,7 @@ fn answer_input(rt: &HostRuntime) -> io::Result<()> {
     let heap = rt.alloc();
     let mut input = Vec::new(heap);
     rt.stdin().read_to_end(&mut input)?;
-    let text = transcript(heap, &input)?;
+    let text = transcript(heap, &mut input)?;
     rt.stdout().write_all(text.as_bytes())
 }
 

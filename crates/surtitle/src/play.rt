@@ -10,7 +10,8 @@ use std::{fs, io};
 pub fn play(rt: &HostRuntime, book: &str, script: &str, devices: &[String]) -> Result<(), Failure> {
     let book = fs::read(rt, book)?;
     let script = fs::read(rt, script)?;
-    let rig = rig_line(rt, devices)?;
+    let mut rig = rig_line(rt, devices)?;
+    let rig = parse_line(rt.alloc(), &mut rig).map_err(io::Error::from)?;
     let mut desk = Desk::new();
     load_book(rt, &mut desk, &book)?;
     load_script(rt, &mut desk, &script)?;
@@ -33,7 +34,7 @@ fn load_script<'a>(rt: &HostRuntime, desk: &mut Desk<'a>, bytes: &'a [u8]) -> Re
     Ok(())
 }
 
-fn load_rig<'a>(rt: &HostRuntime, desk: &mut Desk<'a>, rig: &'a Line) -> Result<(), Failure> {
+fn load_rig<'a>(rt: &HostRuntime, desk: &mut Desk<'a>, rig: &'a Line<'a>) -> Result<(), Failure> {
     let answer = desk.answer(rt.alloc(), 0, rig).map_err(io::Error::from)?;
     let Some(Answer::Rig(ports)) = answer else {
         return Err(Failure::Usage);
@@ -44,13 +45,13 @@ fn load_rig<'a>(rt: &HostRuntime, desk: &mut Desk<'a>, rig: &'a Line) -> Result<
 }
 
 // The line that asks for the rig.
-fn rig_line(rt: &HostRuntime, devices: &[String]) -> io::Result<Line> {
+fn rig_line(rt: &HostRuntime, devices: &[String]) -> io::Result<Vec<u8>> {
     let mut line = b"rig".to_vec(rt.alloc())?;
     for device in devices {
         line.push(b' ')?;
         line.extend_from_slice(device.as_bytes())?;
     }
-    Ok(parse_line(rt.alloc(), &line)?)
+    Ok(line)
 }
 
 // Until the input ends. An operator waits for each answer, so each is written out at once.

@@ -4,7 +4,7 @@ use Rattle.console.specs.Views.{view}
 use Rattle.console.proofs.session.parse_lines.Given as goal
 
 abbrev pub invariant-loop-end : goal.invariant-loop-end
-invariant-loop-end l = lines_of l.input ≡ map view (vec_items l.lines) ++ lines_of l.rest
+invariant-loop-end l = lines_of l.fn.input ≡ map view (vec_items l.lines) ++ lines_of l.rest
 
 abbrev pub decreases-loop-end : goal.decreases-loop-end
 decreases-loop-end l = length l.rest
