@@ -9,10 +9,6 @@ pub distinct_first : (bs : List ℕ) → 0 < length bs → distinct bs ≡ (not 
 distinct_first [] lt = absurd (omega arith)
 distinct_first (b ∷ bs) lt = refl
 
-pub distinct_none : (bs : List ℕ) → length bs ≤ 0 → distinct bs ≡ true
-distinct_none [] le = refl
-distinct_none (b ∷ bs) le = absurd (omega arith)
-
 pub hand_none : (ks : Keys) (bs : List ℕ) (hs : List Handle) (n : ℕ) → n ≡ min (length bs) (length hs) → hand_over ks (drop n bs) (map (λ (h : Handle). h.leaves) (drop n hs)) ≡ ks
 hand_none ks [] hs n e = ap (λ v. hand_over ks v (map (λ (h : Handle). h.leaves) (drop n hs))) (drop_all n [] (omega arith))
 hand_none ks (b ∷ bs) [] n e = let z : n ≡ 0 = omega arith in ap (λ (m : ℕ). hand_over ks (drop m (b ∷ bs)) (map (λ (h : Handle). h.leaves) (drop m []))) z

@@ -28,9 +28,6 @@ script_read : (book : List Kind) (r : Result rules.Script Fault) → IsOk r → 
 script_read book (Ok t) o over = λ i. Ok (record { book = over t refl i; parts = t.parts })
 script_read book (Err e) o over = cc
 
-pub book_passes : (s : Script) → IsOk (read_book (book_of s))
-book_passes s = s.lawful
-
 pub script_passed : (s : Script) → Passed (script_held s)
 script_passed s =
     let bytes = book_of s in
