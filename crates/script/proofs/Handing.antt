@@ -1,5 +1,5 @@
 -- Bound handles, one after the other.
-use Rattle.std.proofs.Common.{◌≡◌, ℕ, suc, ◌<◌, ◌≤◌, true, not, ◌&&◌, List, [], ◌∷◌, map, length, get_or, drop, min, refl, ap, ◌∙◌, arith}
+use Rattle.std.proofs.Common.{◌≡◌, ℕ, suc, ◌<◌, not, ◌&&◌, List, [], ◌∷◌, map, length, get_or, drop, min, refl, ap, ◌∙◌, arith}
 use Rattle.std.proofs.lemmas.List.{drop_all}
 use Rattle.rules.specs.Lists.{has, distinct}
 use Rattle.rules.specs.Script.{Keys, hand_over}
