@@ -1,5 +1,5 @@
--- One line of many is answered.
-use Rattle.std.proofs.Common.{◌≡◌, ℕ, ◌+◌, ◌<◌, List, ◌∷◌, ◌++◌, map, length, get_or, drop, Option, sym, refl, ◌∙◌, subst, add-one}
+-- One line of many is answered, and a writer takes what is printed.
+use Rattle.std.proofs.Common.{◌≡◌, ℕ, ◌+◌, ◌<◌, List, ◌∷◌, ◌++◌, map, length, get_or, drop, Option, sym, refl, ◌∙◌, subst, add-one, append_assoc, ap, Ok, Err, Result, OnOk}
 use Rattle.std.proofs.Math.Seq.{drop-cons}
 use Rattle.protocol.specs.declared.edges.Entry.{Entry}
 use Rattle.console.specs.declared.answer.Answer.{Answer}
@@ -15,3 +15,12 @@ module _ {L : Type 0} (view : L → Parsed) (lines : List L) where
   turn i number line held held' answer es rest within is a t =
       let first : drop i lines ≡ line ∷ drop (i + 1) lines = drop-cons lines i line within ∙ (rw (add-one, ← is) refl) in
       subst (λ (ls : List L). Transcript number held (map view ls) (printed answer es ++ rest)) (sym first) (answer, es, held', rest, a, t, refl)
+
+-- a text goes on by a piece, and its front is taken
+pub moved_on : (taken text piece rest front behind longer : List ℕ) → longer ≡ text ++ piece → longer ≡ front ++ behind → taken ++ (text ++ (piece ++ rest)) ≡ (taken ++ front) ++ (behind ++ rest)
+moved_on taken text piece rest front behind longer grown cut =
+    ap (λ ys. taken ++ ys) (sym (append_assoc text piece rest) ∙ ap (λ ys. ys ++ rest) (sym grown ∙ cut) ∙ append_assoc front behind rest) ∙ sym (append_assoc taken front (behind ++ rest))
+
+pub on_ok : {X E : Type 0} {P Q : Type 0} (r : Result X E) → (P → Q) → OnOk r P → OnOk r Q
+on_ok (Ok x) f p = f p
+on_ok (Err e) f p = p

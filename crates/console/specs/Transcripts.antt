@@ -6,7 +6,8 @@ use Rattle.console.specs.declared.answer.Answer.{Answer}
 use Rattle.console.specs.declared.answer.Answer.TheVariants.{Book, Script, NotUnderstood}
 use Rattle.console.specs.Acts.{Acts}
 use Rattle.console.specs.Answers.{count_kinds, count_parts, reply_text, rig_answer}
-use Rattle.console.specs.Held.{Held, book_after, rig_after, script_after, script_read}
+use Rattle.std.specs.Io.KnownBytes.{Appends}
+use Rattle.console.specs.Held.{Held, nothing_held, book_after, rig_after, script_after, script_read}
 use Rattle.console.specs.Lines.{Parsed, blank, book, script, rig, stage, unknown}
 use Rattle.console.specs.Plans.{mounted}
 
@@ -32,3 +33,11 @@ Transcript number held [] text = text ≡ []
 Transcript number held (line ∷ lines) text =
     (answer : Option Answer) × (es : List Entry) × (held' : Held) × (rest : List ℕ)
     × Answers number held line answer es held' × Transcript (number + 1) held' lines rest × (text ≡ printed answer es ++ rest)
+
+-- a writer, by its bytes where they are known, took what is answered to the lines from nothing held
+abbrev pub Prints : List Parsed → Option (List ℕ) → Option (List ℕ) → Type 0
+Prints lines old new = (text : List ℕ) × Transcript 1 nothing_held lines text × Appends old new text
+
+-- a text less what a writer took of its front
+abbrev pub Hands : List ℕ → List ℕ → Option (List ℕ) → Option (List ℕ) → Type 0
+Hands text rest old new = (taken : List ℕ) × Appends old new taken × (text ≡ taken ++ rest)

@@ -12,10 +12,11 @@ use std::test::Fail;
 #[test]
 fn answers_line_by_line(rt: HostRuntime) -> Result<(), Fail> {
     let mut input = *b"# a remark\n\nbook 0\nbook\r\nplay";
-    let text = transcript(rt.alloc(), &mut input)?;
+    let mut text = Vec::new(rt.alloc());
+    transcript(rt.alloc(), &mut input, &mut text)?;
     assert_eq!(rt;
-        text.as_str(),
-        "line 3: not understood\nbook passed, 0 kinds\nline 5: not understood\n"
+        text.as_slice(),
+        b"line 3: not understood\nbook passed, 0 kinds\nline 5: not understood\n".as_slice()
     );
     Ok(())
 }
@@ -45,10 +46,11 @@ fn a_long_book_is_refused(rt: HostRuntime) -> Result<(), Fail> {
 fn a_rig_is_held_until_another_is(rt: HostRuntime) -> Result<(), Fail> {
     let mut input =
         *b"ports\nrig trail/projector:02 projector\nrig patch=10101010101010101010101010101010/projector\nports\n";
-    let text = transcript(rt.alloc(), &mut input)?;
+    let mut text = Vec::new(rt.alloc());
+    transcript(rt.alloc(), &mut input, &mut text)?;
     assert_eq!(rt;
-        text.as_str(),
-        "line 1: not understood\nrig 2 ports\nrig refused 31 at 65535\nport 0 station 0, heard 0\nport 1 station 0, heard 0\n"
+        text.as_slice(),
+        b"line 1: not understood\nrig 2 ports\nrig refused 31 at 65535\nport 0 station 0, heard 0\nport 1 station 0, heard 0\n".as_slice()
     );
     Ok(())
 }
@@ -56,10 +58,11 @@ fn a_rig_is_held_until_another_is(rt: HostRuntime) -> Result<(), Fail> {
 #[test]
 fn a_player_is_asked(rt: HostRuntime) -> Result<(), Fail> {
     let mut input = *b"player\nbegin\nrig projector\nbegin\nlook 0\ngo 1 120\nstrike 4097\n";
-    let text = transcript(rt.alloc(), &mut input)?;
+    let mut text = Vec::new(rt.alloc());
+    transcript(rt.alloc(), &mut input, &mut text)?;
     assert_eq!(rt;
-        text.as_str(),
-        "player new\nline 2: not understood\nrig 1 ports\nbegin refused 24 at 65535\nlook refused 31 at 0\ngo refused 27 at 65535\nline 7: not understood\n"
+        text.as_slice(),
+        b"player new\nline 2: not understood\nrig 1 ports\nbegin refused 24 at 65535\nlook refused 31 at 0\ngo refused 27 at 65535\nline 7: not understood\n".as_slice()
     );
     Ok(())
 }

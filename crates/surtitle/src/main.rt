@@ -11,7 +11,7 @@ use evening::evening;
 use failure::Failure;
 use play::play;
 use request::{Request, request_of};
-use std::io::{Read, Write};
+use std::io::Read;
 use std::process::ExitCode;
 use std::{env, fs, io};
 
@@ -45,8 +45,7 @@ fn answer_input(rt: &HostRuntime) -> io::Result<()> {
     let heap = rt.alloc();
     let mut input = Vec::new(heap);
     rt.stdin().read_to_end(&mut input)?;
-    let text = transcript(heap, &mut input)?;
-    rt.stdout().write_all(text.as_bytes())
+    transcript(heap, &mut input, &mut rt.stdout())
 }
 
 // Prints what the console would answer; the first refusal is the failure.
