@@ -1,95 +1,12 @@
--- Where all the answers to a letter lead: what it says of them, and one answer more.
-use Rattle.std.proofs.Common.{◌≡◌, ℕ, zero, suc, ◌<◌, Bool, true, false, cond, ◌&&◌, eqb, List, [], ◌∷◌, length, get_or, set, is_some, Some, None, Option, sym, refl, ap, ◌∙◌, true≢false, ◌≢◌, arith}
+-- Where all the answers to a letter lead, with one answer more.
+use Rattle.std.proofs.Common.{◌≡◌, ℕ, zero, suc, ◌<◌, Bool, true, false, cond, ◌&&◌, eqb, List, [], ◌∷◌, length, get_or, set, Some, None, Option, sym, refl, ap, ◌∙◌, ◌≢◌, arith}
 use native.Mathlib.Decide.{ℕ_discrete}
-use Rattle.std.specs.List.{list_any}
 use Rattle.protocol.specs.declared.edges.Edge.{Edge}
-use Rattle.protocol.specs.Lists.{all}
 use Rattle.protocol.specs.Tables.{Table, leads, successors}
-use Rattle.protocol.proofs.Tests.{none_some, same_number, equal_numbers, other_numbers, is_false}
+use Rattle.protocol.proofs.Tests.{none_some, same_number, other_numbers}
 use Rattle.book.specs.declared.leads.Leads.{Leads}
 use Rattle.book.specs.declared.leads.Leads.TheVariants.{Nowhere, To, Apart}
-use Rattle.book.specs.Leads.{joined_with, joint, agrees, agreed}
-
--- What it says of the answers
-
-abbrev leads_somewhere : Leads → Bool
-leads_somewhere Nowhere = false
-leads_somewhere (To t) = true
-leads_somewhere Apart = true
-
-abbrev station_of : Leads → Option ℕ
-station_of Nowhere = None
-station_of (To t) = Some t
-station_of Apart = None
-
--- all of them lead to the station
-abbrev leads_there : ℕ → Leads → Bool
-leads_there t Nowhere = true
-leads_there t (To u) = eqb u t
-leads_there t Apart = false
-
-somewhere_with : (t : ℕ) (w : Leads) → leads_somewhere (joined_with t w) ≡ true
-somewhere_with t Nowhere = refl
-somewhere_with t Apart = refl
-somewhere_with t (To u) = by (eqb u t)
-  where
-    by : (b : Bool) → leads_somewhere (cond b (To t) Apart) ≡ true
-    by true = refl
-    by false = refl
-
-there_with : (t u : ℕ) (w : Leads) → (eqb u t && leads_there t w) ≡ leads_there t (joined_with u w)
-there_with t u Nowhere = by (eqb u t)
-  where
-    by : (b : Bool) → (b && true) ≡ b
-    by true = refl
-    by false = refl
-there_with t u Apart = by (eqb u t)
-  where
-    by : (b : Bool) → (b && false) ≡ false
-    by true = refl
-    by false = refl
-there_with t u (To v) = by (eqb v u) (eqb u t) refl refl
-  where
-    by : (b c : Bool) → eqb v u ≡ b → eqb u t ≡ c → (c && eqb v t) ≡ leads_there t (cond b (To u) Apart)
-    by true true p q = equal_numbers (same_number v u p ∙ same_number u t q) ∙ sym q
-    by true false p q = sym q
-    by false true p q = is_false (eqb v t) (λ r. true≢false (sym (equal_numbers (same_number v t r ∙ sym (same_number u t q))) ∙ p))
-    by false false p q = refl
-
-station_with : (t : ℕ) (w : Leads) → station_of (joined_with t w) ≡ cond (leads_there t w) (Some t) None
-station_with t Nowhere = refl
-station_with t Apart = refl
-station_with t (To u) = by (eqb u t)
-  where
-    by : (b : Bool) → station_of (cond b (To t) Apart) ≡ cond b (Some t) None
-    by true = refl
-    by false = refl
-
-joint_somewhere : (ts : List (Option ℕ)) → list_any is_some ts ≡ leads_somewhere (joint ts)
-joint_somewhere [] = refl
-joint_somewhere (None ∷ ts) = joint_somewhere ts
-joint_somewhere (Some t ∷ ts) = sym (somewhere_with t (joint ts))
-
-joint_there : (t : ℕ) (ts : List (Option ℕ)) → all (agrees t) ts ≡ leads_there t (joint ts)
-joint_there t [] = refl
-joint_there t (None ∷ ts) = joint_there t ts
-joint_there t (Some u ∷ ts) = ap (λ b. eqb u t && b) (joint_there t ts) ∙ there_with t u (joint ts)
-
-joint_station : (ts : List (Option ℕ)) → agreed ts ≡ station_of (joint ts)
-joint_station [] = refl
-joint_station (None ∷ ts) = joint_station ts
-joint_station (Some t ∷ ts) = ap (λ b. cond b (Some t) None) (joint_there t ts) ∙ sym (station_with t (joint ts))
-
-pub nowhere_none : (ts : List (Option ℕ)) → joint ts ≡ Nowhere → list_any is_some ts ≡ false
-nowhere_none ts e = joint_somewhere ts ∙ ap leads_somewhere e
-
-pub to_agreed : (ts : List (Option ℕ)) (t : ℕ) → joint ts ≡ To t → (list_any is_some ts ≡ true) × (agreed ts ≡ Some t)
-to_agreed ts t e = (joint_somewhere ts ∙ ap leads_somewhere e, joint_station ts ∙ ap station_of e)
-
-pub apart_differ : (ts : List (Option ℕ)) → joint ts ≡ Apart → (list_any is_some ts ≡ true) × (agreed ts ≡ None)
-apart_differ ts e = (joint_somewhere ts ∙ ap leads_somewhere e, joint_station ts ∙ ap station_of e)
-
--- One answer more
+use Rattle.book.specs.Leads.{joined_with, joint}
 
 apart_from : (t u : ℕ) → t ≢ u → joined_with t (To u) ≡ Apart
 apart_from t u ne = ap (λ b. cond b (To t) Apart) (other_numbers u t (λ e. ne (sym e)))

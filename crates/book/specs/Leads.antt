@@ -1,6 +1,5 @@
 -- Where all the answers to a letter lead.
-use Rattle.std.specs.Prelude.{ℕ, ◌+◌, ◌*◌, Bool, true, false, cond, ◌&&◌, List, [], ◌∷◌, Some, None, Option, ◌==◌, nat_lt, slice_index_or}
-use Rattle.protocol.specs.Lists.{all}
+use Rattle.std.specs.Prelude.{ℕ, ◌+◌, ◌*◌, false, cond, ◌&&◌, List, [], ◌∷◌, Some, None, Option, ◌==◌, nat_lt, slice_index_or}
 use Rattle.book.specs.declared.leads.Leads.{Leads}
 use Rattle.book.specs.declared.leads.Leads.TheVariants.{Nowhere, To, Apart}
 use Rattle.book.specs.declared.leads.Joint.{Joint}
@@ -17,17 +16,6 @@ abbrev pub joint : List (Option ℕ) → Leads
 joint [] = Nowhere
 joint (None ∷ ts) = joint ts
 joint (Some t ∷ ts) = joined_with t (joint ts)
-
--- no answer, or one that leads to the station
-abbrev pub agrees : ℕ → Option ℕ → Bool
-agrees t None = true
-agrees t (Some u) = u == t
-
--- the one station to which all the declared answers lead
-abbrev pub agreed : List (Option ℕ) → Option ℕ
-agreed [] = None
-agreed (None ∷ ts) = agreed ts
-agreed (Some t ∷ ts) = cond (all (agrees t) ts) (Some t) None
 
 -- The table that the code keeps
 

@@ -1,12 +1,12 @@
 -- What is answered to a row of lines.
 use Rattle.std.specs.Prelude.{◌≡◌, ℕ, ◌+◌, List, [], ◌∷◌, ◌++◌, Some, None, Option}
+use Rattle.std.specs.Io.KnownBytes.{Appends}
 use Rattle.protocol.specs.declared.edges.Entry.{Entry}
 use Rattle.book.specs.Reading.{read_book}
 use Rattle.console.specs.declared.answer.Answer.{Answer}
 use Rattle.console.specs.declared.answer.Answer.TheVariants.{Book, Script, NotUnderstood}
 use Rattle.console.specs.Acts.{Acts}
 use Rattle.console.specs.Answers.{count_kinds, count_parts, reply_text, rig_answer}
-use Rattle.std.specs.Io.KnownBytes.{Appends}
 use Rattle.console.specs.Held.{Held, nothing_held, book_after, rig_after, script_after, script_read}
 use Rattle.console.specs.Lines.{Parsed, blank, book, script, rig, stage, unknown}
 use Rattle.console.specs.Plans.{mounted}

@@ -10,8 +10,7 @@ use Rattle.protocol.specs.Tables.{Table, Ranged, Allowed, allowed, successors}
 use Rattle.protocol.proofs.Tests.{cases, both, and_true, same_number, equal_numbers}
 use Rattle.rules.specs.Lists.{same, distinct, from}
 use Rattle.rules.specs.Script.{Block, no_block, Command, send, ask, repeat, run, store, dec, cue, fail, Read, nothing, broken, command, first, blocks, Part, Scope, part_of, Keys, at, table_at, hand_over, in_range, depth_fits}
-use Rattle.book.specs.Leads.{agreed}
-use Rattle.rules.specs.Check.{Checks, undeclared_empty, branches, join, or_fault, bound_right, command_keys, check_command, check_read, check_block}
+use Rattle.rules.specs.Check.{Checks, agreed, undeclared_empty, branches, join, or_fault, bound_right, command_keys, check_command, check_read, check_block}
 use Rattle.rules.specs.Keys.{InRange, Shallow, LaidOut, laid_end, laid_then, Binds, BlockKeys, ends, goes_on, CommandKeys, sends, asks, repeats, runs, stores, decs, cues, fails}
 use Rattle.rules.proofs.Lists.{below, all_below, same_lists, same_self, different, are_distinct}
 use Rattle.rules.proofs.Ranges.{range_so, range_passes, depth_so, depth_passes}

@@ -7,8 +7,7 @@ use Rattle.protocol.proofs.Tests.{none_some, some_same, taken, both, and_true, s
 use Rattle.protocol.proofs.Lists.{all_each, each_all}
 use Rattle.rules.specs.Lists.{same, empty}
 use Rattle.rules.specs.Script.{Block, no_block, Keys}
-use Rattle.book.specs.Leads.{agrees, agreed}
-use Rattle.rules.specs.Check.{Checks, undeclared_empty, branches, join, or_fault}
+use Rattle.rules.specs.Check.{Checks, agrees, agreed, undeclared_empty, branches, join, or_fault}
 use Rattle.rules.proofs.Lists.{all_at, all_of, same_lists, same_self, is_empty, tail}
 
 pub or_some : {X : Type 0} (o : Option X) (e : Fault) (x : X) → or_fault o e ≡ Ok x → o ≡ Some x

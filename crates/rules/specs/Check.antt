@@ -8,10 +8,20 @@ use Rattle.faults.specs.Results.{◌>>=◌, need}
 use Rattle.protocol.specs.Lists.{all}
 use Rattle.protocol.specs.Tables.{Table, allowed, successors}
 use Rattle.book.specs.Kinds.{Kind}
-use Rattle.book.specs.Leads.{agreed}
 use Rattle.book.specs.Reading.{read_book}
 use Rattle.rules.specs.Lists.{same, distinct, empty, from}
 use Rattle.rules.specs.Script.{Block, no_block, Command, send, ask, repeat, run, store, dec, cue, fail, Read, nothing, broken, command, first, Part, read_part, main_of, Script, Scope, part_of, Keys, at, table_at, hand_over, in_range, depth_fits}
+
+-- no answer, or one that leads to the station
+abbrev pub agrees : ℕ → Option ℕ → Bool
+agrees t None = true
+agrees t (Some u) = u == t
+
+-- the one station to which all the declared answers lead
+abbrev pub agreed : List (Option ℕ) → Option ℕ
+agreed [] = None
+agreed (None ∷ ts) = agreed ts
+agreed (Some t ∷ ts) = cond (all (agrees t) ts) (Some t) None
 
 -- the block of an answer that is not declared is empty
 abbrev pub undeclared_empty : List (Option ℕ) → List Block → Bool

@@ -7,7 +7,6 @@ pub mod Looking
 pub mod Walking
 pub mod Turns
 pub mod Leaving
-pub mod Sending
 pub mod Mapped
 pub mod Bound
 pub mod Headers
