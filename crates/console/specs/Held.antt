@@ -13,7 +13,8 @@ use Rattle.device.specs.Meaning.{Meaning}
 use Rattle.device.specs.Ports.{Ports}
 use Rattle.machine.specs.Player.{Player, new_player}
 use Rattle.player.specs.View.{view}
-use Rattle.console.specs.Ports.{rig_ports}
+use Rattle.console.specs.Plans.{Planned, replies_in}
+use Rattle.console.specs.Ports.{rig_ports, rig_replies}
 use Rattle.console.specs.declared.desk.Desk.{Desk}
 
 -- the bytes of the book, the script, the player, and what the rig means, if there is one
@@ -25,6 +26,10 @@ pub record Held : Type 0 where
 
 abbrev pub held_of : Desk → Held
 held_of d = record { book = bytes_of d.book; script = script_held d.script; player = view d.player; rig = option_map rig_ports d.rig }
+
+-- No meaning has what a projector is still to answer: it is held beside the meanings.
+abbrev pub replies_held : Desk → Option (List (List ℕ))
+replies_held d = option_map rig_replies d.rig
 
 abbrev pub nothing_held : Held
 nothing_held = record { book = []; script = empty_script; player = new_player; rig = None }
@@ -50,6 +55,12 @@ rig_from held (m ∷ ms) = Some (row_ports (m ∷ ms))
 abbrev pub rig_after : Held → Result (List Meaning) Fault → Held
 rig_after held (Ok ms) = record { book = held.book; script = held.script; player = held.player; rig = rig_from held.rig ms }
 rig_after held (Err fault) = held
+
+-- the replies of the planned devices, where they take the rig's place
+abbrev pub replies_after : Option (List (List ℕ)) → List Planned → Result (List Meaning) Fault → Option (List (List ℕ))
+replies_after held plans (Ok []) = held
+replies_after held plans (Ok (m ∷ ms)) = Some (replies_in plans)
+replies_after held plans (Err fault) = held
 
 -- after a call that leaves such a player
 abbrev pub with_player : Held → Player → Held

@@ -1,12 +1,12 @@
 -- Projectors under layers: what they mean, and which a line describes.
-use Rattle.std.specs.Prelude.{false, List, [], ◌∷◌, Ok, Result}
+use Rattle.std.specs.Prelude.{ℕ, false, List, [], ◌∷◌, Ok, Result}
 use Rattle.faults.specs.declared.fault.Fault.{Fault}
 use Rattle.faults.specs.Results.{◌>>=◌}
 use Rattle.device.specs.Kept.{patch_lawful, projector_lawful}
 use Rattle.device.specs.LetterMap.{map_from}
 use Rattle.device.specs.Meaning.{Lawful, Meaning}
 use Rattle.device.specs.Patch.{patch_meaning}
-use Rattle.device.specs.Projector.{projected, projector_meaning}
+use Rattle.device.specs.Projector.{projected, projector_meaning, replies_of}
 use Rattle.device.specs.Stacked as stack
 use Rattle.console.specs.declared.layer.Layer.{Layer}
 use Rattle.console.specs.declared.layer.Layer.TheVariants.{Trail, Patch}
@@ -23,6 +23,12 @@ module _ {D : Type 0} (meaning : D → Meaning) where
   layered_lawful lawful (Bare p) = projector_lawful p
   layered_lawful lawful (Trailed t) = lawful t.below
   layered_lawful lawful (Patched p) = patch_lawful p.map p.stuck p.tally.heard p.tally.letter p.tally.answer (meaning p.below) (lawful p.below) p.tally.counted
+
+-- the replies that are left to the projector under all layers
+abbrev pub layered_replies : {D : Type 0} → (D → List ℕ) → Layered D → List ℕ
+layered_replies replies (Bare p) = replies_of p
+layered_replies replies (Trailed t) = replies t.below
+layered_replies replies (Patched p) = replies p.below
 
 -- the layer, over a device that is still away; a map may break its rule
 abbrev pub layer_from : Layer → Result stack.Layer Fault

@@ -6,10 +6,10 @@ use Rattle.device.specs.declared.row.Row.{Row}
 use Rattle.device.specs.Built.{row_ports}
 use Rattle.device.specs.Meaning.{Meaning}
 use Rattle.device.specs.Ports.{Ports, heard_at, station_at}
-use Rattle.device.specs.Projector.{projector_meaning}
+use Rattle.device.specs.Projector.{projector_meaning, replies_of}
 use Rattle.console.specs.declared.layered.Layered.{Layered}
 use Rattle.console.specs.declared.ports.PortLine.{PortLine}
-use Rattle.console.specs.Layers.{layered_meaning}
+use Rattle.console.specs.Layers.{layered_meaning, layered_replies}
 
 abbrev pub Nest : Type 0
 Nest = Layered (Layered (Layered (Layered (Layered (Layered (Layered (Layered Projector)))))))
@@ -21,6 +21,15 @@ nest_meaning =
 
 abbrev pub rig_ports : Row Nest → Ports
 rig_ports rig = row_ports (map nest_meaning (vec_items rig.devices))
+
+abbrev pub nest_replies : Nest → List ℕ
+nest_replies =
+    layered_replies (layered_replies (layered_replies (layered_replies
+    (layered_replies (layered_replies (layered_replies (layered_replies replies_of)))))))
+
+-- what each device's projector will answer to the lamp query
+abbrev pub rig_replies : Row Nest → List (List ℕ)
+rig_replies rig = map nest_replies (vec_items rig.devices)
 
 -- what a port shows
 abbrev pub port_line : Ports → ℕ → PortLine

@@ -1,5 +1,5 @@
 -- What is answered to a row of lines.
-use Rattle.std.specs.Prelude.{◌≡◌, ℕ, ◌+◌, List, [], ◌∷◌, ◌++◌, Some, None, Option}
+use Rattle.std.specs.Prelude.{◌≡◌, ℕ, ◌+◌, List, [], ◌∷◌, ◌++◌, length, if◌then◌else◌, Some, None, Option, nat_le}
 use Rattle.std.specs.Io.KnownBytes.{Appends}
 use Rattle.protocol.specs.declared.edges.Entry.{Entry}
 use Rattle.book.specs.Reading.{read_book}
@@ -7,7 +7,7 @@ use Rattle.console.specs.declared.answer.Answer.{Answer}
 use Rattle.console.specs.declared.answer.Answer.TheVariants.{Book, Script, NotUnderstood}
 use Rattle.console.specs.Acts.{Acts}
 use Rattle.console.specs.Answers.{count_kinds, count_parts, reply_text, rig_answer}
-use Rattle.console.specs.Held.{Held, nothing_held, book_after, rig_after, script_after, script_read}
+use Rattle.console.specs.Held.{Held, nothing_held, book_after, replies_after, rig_after, script_after, script_read}
 use Rattle.console.specs.Lines.{Parsed, blank, book, script, rig, stage, unknown}
 use Rattle.console.specs.Plans.{mounted}
 
@@ -22,6 +22,15 @@ Answers number held (rig plans) answer es held' =
     (answer ≡ Some (rig_answer number (mounted plans))) × (es ≡ []) × (held' ≡ rig_after held (mounted plans))
 Answers number held (stage command) answer es held' = (a : Answer) × (answer ≡ Some a) × Acts number held command a es held'
 Answers number held unknown answer es held' = (answer ≡ Some (NotUnderstood number)) × (es ≡ []) × (held' ≡ held)
+
+-- the replies of the held projectors after a line, but for those that a go or a strike takes
+abbrev pub Replies : Parsed → Option (List (List ℕ)) → Option (List (List ℕ)) → Type 0
+Replies blank old new = new ≡ old
+Replies (book bs) old new = new ≡ old
+Replies (script bs) old new = new ≡ old
+Replies (rig plans) old new = new ≡ replies_after old plans (mounted plans)
+Replies (stage command) old new = Unit {0}
+Replies unknown old new = new ≡ old
 
 abbrev pub printed : Option Answer → List Entry → List ℕ
 printed None es = []
@@ -38,6 +47,13 @@ Transcript number held (line ∷ lines) text =
 abbrev pub Prints : List Parsed → Option (List ℕ) → Option (List ℕ) → Type 0
 Prints lines old new = (text : List ℕ) × Transcript 1 nothing_held lines text × Appends old new text
 
--- a text less what a writer took of its front
+-- what is handed on of a text: all of it once it has 65,536 bytes, and else nothing
+abbrev pub piece_of : List ℕ → List ℕ
+piece_of text = if nat_le 65536 (length text) then text else []
+
+abbrev pub rest_of : List ℕ → List ℕ
+rest_of text = if nat_le 65536 (length text) then [] else text
+
+-- a writer took the piece, and the rest of the text is left
 abbrev pub Hands : List ℕ → List ℕ → Option (List ℕ) → Option (List ℕ) → Type 0
-Hands text rest old new = (taken : List ℕ) × Appends old new taken × (text ≡ taken ++ rest)
+Hands text rest old new = Appends old new (piece_of text) × (rest ≡ rest_of text)

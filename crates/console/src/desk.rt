@@ -3,9 +3,9 @@ ghost use Rattle.std.specs.Prelude.{◌≡◌, map, IfOk, OnErr, OnOk};
 ghost use Rattle.book.specs.Reading.{read_book};
 ghost use Rattle.console.specs.Acts.{entries_for};
 ghost use Rattle.console.specs.Answers.{count_kinds, count_parts, rig_answer};
-ghost use Rattle.console.specs.Held.{book_after, held_of, nothing_held, rig_after, script_after, script_read};
+ghost use Rattle.console.specs.Held.{book_after, held_of, nothing_held, replies_after, replies_held, rig_after, script_after, script_read};
 ghost use Rattle.console.specs.Plans.{mounted, planned};
-ghost use Rattle.console.specs.Transcripts.{Answers};
+ghost use Rattle.console.specs.Transcripts.{Answers, Replies};
 ghost use Rattle.console.specs.Views.{view};
 
 use crate::answer::Answer;
@@ -59,6 +59,7 @@ impl<'a> Desk<'a> {
     pub fn check_book(&mut self, bytes: &'a [u8]) -> Result<u8, Fault>
         ensures answer { result ≡ count_kinds (read_book bytes.now) }
         ensures held { held_of self.new ≡ book_after (held_of self.old) bytes.now (read_book bytes.now) }
+        ensures refused { OnErr result (self.new ≡ self.old) }
     {
         self.book.check(bytes)?;
         self.script = Script::new();
@@ -69,6 +70,7 @@ impl<'a> Desk<'a> {
     pub fn check_script(&mut self, bytes: &'a [u8]) -> Result<u8, Fault>
         ensures answer { result ≡ count_parts (script_read (held_of self.old) bytes.now) }
         ensures held { held_of self.new ≡ script_after (held_of self.old) (script_read (held_of self.old) bytes.now) }
+        ensures refused { OnErr result (self.new ≡ self.old) }
     {
         self.script.check(&self.book, bytes)?;
         Ok(self.script.parts())
@@ -83,7 +85,8 @@ impl<'a> Desk<'a> {
     ) -> Result<Answer, AllocError>
         ensures answer { IfOk result (λ answer. answer ≡ rig_answer number (mounted (map planned plans.now))) }
         ensures held { OnOk result (held_of self.new ≡ rig_after (held_of self.old) (mounted (map planned plans.now))) }
-        ensures lost { OnErr result (held_of self.new ≡ held_of self.old) }
+        ensures replies { OnOk result (replies_held self.new ≡ replies_after (replies_held self.old) (map planned plans.now) (mounted (map planned plans.now))) }
+        ensures lost { OnErr result (self.new ≡ self.old) }
     {
         let devices = match build_all::<Nest<'a>>(heap, plans)? {
             Ok(devices) => devices,
@@ -107,7 +110,8 @@ impl<'a> Desk<'a> {
         line: &'a Line<'a>,
     ) -> Result<Option<Answer>, AllocError>
         ensures answers { IfOk result (λ answer. Answers number (held_of self.old) (view line.now) answer (entries_for self.new answer) (held_of self.new)) }
-        ensures lost { OnErr result (held_of self.new ≡ held_of self.old) }
+        ensures replies { OnOk result (Replies (view line.now) (replies_held self.old) (replies_held self.new)) }
+        ensures lost { OnErr result (self.new ≡ self.old) }
     {
         match line {
             None => Ok(None),

@@ -1,6 +1,7 @@
 // The console's device: a simulated projector under layers.
-ghost use Rattle.std.specs.Prelude.{◌≡◌, ℕ, ◌≤◌, suc, length, Ok, Err, MatchResult};
-ghost use Rattle.console.specs.Layers.{built, layered_lawful, layered_meaning};
+ghost use Rattle.std.specs.Prelude.{◌≡◌, ℕ, ◌≤◌, List, suc, length, Ok, Err, IfOk, MatchResult};
+ghost use Rattle.device.specs.Projector.{replies_of};
+ghost use Rattle.console.specs.Layers.{built, layered_lawful, layered_meaning, layered_replies};
 
 use crate::layer::Layer;
 use device::{Device, LetterMap, Patch, Projector, Trail};
@@ -74,14 +75,20 @@ pub(crate) trait Build<'a>: Device {
     // how many layers it takes
     ghost depth: { ℕ };
 
+    // what the projector under all layers will answer to the lamp query
+    ghost replies_under: { Self → List ℕ };
+
     // The outermost layer first; the fault is that of a map.
     fn build(layers: &[Layer], replies: &'a [u8]) -> Result<Self, Fault>
         requires { length layers.now ≤ depth }
-        ensures { MatchResult result (λ device. built layers.now ≡ Ok (Self.meaning device)) (λ fault. built layers.now ≡ Err fault) };
+        ensures built { MatchResult result (λ device. built layers.now ≡ Ok (Self.meaning device)) (λ fault. built layers.now ≡ Err fault) }
+        ensures replies { IfOk result (λ device. replies_under device ≡ replies.now) };
 }
 
 impl<'a> Build<'a> for Projector<'a> {
     ghost depth = { 0 };
+
+    ghost replies_under = { replies_of };
 
     fn build(_layers: &[Layer], replies: &'a [u8]) -> Result<Projector<'a>, Fault> {
         Ok(Projector::new(replies))
@@ -90,6 +97,8 @@ impl<'a> Build<'a> for Projector<'a> {
 
 impl<'a, D: Build<'a>> Build<'a> for Layered<'a, D> {
     ghost depth = { suc D.depth };
+
+    ghost replies_under = { layered_replies D.replies_under };
 
     fn build(layers: &[Layer], replies: &'a [u8]) -> Result<Layered<'a, D>, Fault> {
         match layers {

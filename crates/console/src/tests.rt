@@ -103,3 +103,45 @@ fn a_layer_means_what_is_below(rt: HostRuntime) -> Result<(), Fail> {
     assert_eq!(rt; device.heard(), 2);
     Ok(())
 }
+
+// The three below hold too where memory ends at any request of theirs: `rt try --test --fail-alloc N` ends it at the Nth.
+#[test]
+fn without_memory_a_line_counts_for_nothing(rt: HostRuntime) -> Result<(), Fail> {
+    let mut text = *b"rig trail/projector:02";
+    let line = parse_line(rt.alloc(), &mut text)?;
+    let mut desk = Desk::new();
+    let answered = desk.answer(rt.alloc(), 1, &line);
+    let ports = desk.act(2, StageCommand::Ports);
+    match answered {
+        Ok(answer) => {
+            assert!(rt; matches!(answer, Some(Answer::Rig(Ok(1)))));
+            assert!(rt; matches!(ports, Answer::Ports(_)));
+        }
+        Err(_) => assert!(rt; matches!(ports, Answer::NotUnderstood(2))),
+    }
+    Ok(())
+}
+
+#[test]
+fn without_memory_no_half_of_a_short_transcript_is_written(rt: HostRuntime) -> Result<(), Fail> {
+    let mut input = *b"book\nplay";
+    let mut text = Vec::new(rt.alloc());
+    match transcript(rt.alloc(), &mut input, &mut text) {
+        Ok(()) => assert_eq!(rt;
+            text.as_slice(),
+            b"book passed, 0 kinds\nline 2: not understood\n".as_slice()
+        ),
+        Err(_) => assert!(rt; text.is_empty()),
+    }
+    Ok(())
+}
+
+#[test]
+fn without_memory_a_text_keeps_its_front(rt: HostRuntime) -> Result<(), Fail> {
+    let mut text = String::from_str(rt.alloc(), "so far\n")?;
+    match write_reply(&mut text, &Answer::Struck(Ok(0)), &[]) {
+        Ok(()) => assert_eq!(rt; text.as_str(), "so far\nstrike 0 letters\n"),
+        Err(_) => assert!(rt; text.as_str().starts_with("so far\n")),
+    }
+    Ok(())
+}

@@ -2,7 +2,7 @@
 ghost use Rattle.std.specs.Prelude.{◌≡◌, ℕ, ◌≤◌, IfOk, Ok, Err, MatchResult, map};
 ghost use Rattle.std.specs.Option.{option_map};
 ghost use Rattle.console.specs.Layers.{built};
-ghost use Rattle.console.specs.Plans.{mounted, plan_of, planned};
+ghost use Rattle.console.specs.Plans.{mounted, plan_of, planned, replies_in};
 
 use super::Plan;
 use crate::layer::Layer;
@@ -28,7 +28,8 @@ impl Plan {
     // The fault is that of a map.
     fn build<'a, D: Build<'a>>(&'a self) -> Result<D, Fault>
         requires { 8 ≤ D.depth }
-        ensures { MatchResult result (λ device. built (planned self.now).layers ≡ Ok (D.Device.meaning device)) (λ fault. built (planned self.now).layers ≡ Err fault) }
+        ensures built { MatchResult result (λ device. built (planned self.now).layers ≡ Ok (D.Device.meaning device)) (λ fault. built (planned self.now).layers ≡ Err fault) }
+        ensures replies { IfOk result (λ device. D.replies_under device ≡ (planned self.now).replies) }
     {
         D::build(&self.layers, &self.replies)
     }
@@ -40,7 +41,8 @@ pub(crate) fn build_all<'a, D: Build<'a> + Drop>(
     plans: &'a [Plan],
 ) -> Result<Result<Vec<D>, Fault>, AllocError>
     requires { 8 ≤ D.depth }
-    ensures { IfOk result (λ r. MatchResult r (λ devices. mounted (map planned plans.now) ≡ Ok (map D.Device.meaning devices.items)) (λ fault. mounted (map planned plans.now) ≡ Err fault)) }
+    ensures mounted { IfOk result (λ r. MatchResult r (λ devices. mounted (map planned plans.now) ≡ Ok (map D.Device.meaning devices.items)) (λ fault. mounted (map planned plans.now) ≡ Err fault)) }
+    ensures replies { IfOk result (λ r. IfOk r (λ devices. map D.replies_under devices.items ≡ replies_in (map planned plans.now))) }
 {
     let mut devices = Vec::new(heap);
     for plan in plans {

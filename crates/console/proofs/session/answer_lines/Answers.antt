@@ -3,9 +3,9 @@ use Rattle.std.proofs.KnownBytes.{Appends-nil, Appends-trans}
 use Rattle.std.proofs.lemmas.List.{append-nil, drop_all}
 use Rattle.std.specs.Io.KnownBytes.{Appends}
 use Rattle.console.specs.Held.{Held, nothing_held}
-use Rattle.console.specs.Transcripts.{Transcript}
+use Rattle.console.specs.Transcripts.{Transcript, piece_of}
 use Rattle.console.specs.Views.{view}
-use Rattle.console.proofs.Turns.{turn, moved_on, on_ok}
+use Rattle.console.proofs.Turns.{turn, in_two, moved_on, on_ok}
 use Rattle.console.proofs.session.answer_lines.Goals as goal
 
 pub loop-i-init : goal.loop-i-init
@@ -20,12 +20,13 @@ loop-i-init g c = (
 pub loop-i-preserved : goal.loop-i-preserved
 loop-i-preserved g c =
     let so_far = c.loop-i.invariant in
+    let piece = piece_of (string_bytes c.write_answer.new.text) in
     let hands = c.in_ok-hand_on.ensures in (
-      so_far.0 ++ hands.0,
-      Appends-trans _ _ _ so_far.0 hands.0 so_far.1 hands.1,
+      so_far.0 ++ piece,
+      Appends-trans _ _ _ so_far.0 piece so_far.1 hands.0,
       λ rest t.
           subst (λ (text : List ℕ). Transcript 1 nothing_held (map view c.args.lines.now) text)
-          (moved_on so_far.0 (string_bytes c.loop-i.text) _ rest hands.0 _ _ c.in_ok-write_answer.ensures hands.2)
+          (moved_on so_far.0 (string_bytes c.loop-i.text) _ rest piece _ _ c.in_ok-write_answer.ensures (in_two _ _ hands.1))
           (so_far.2 _ (turn view c.args.lines.now _ _ _ _ _ _ _ rest c.loop-i-test.true c.index-lines-i.is c.in_ok-answer.ensures.answers t)),
     )
 
