@@ -1,5 +1,5 @@
 // Devices in a row of ports.
-ghost use Rattle.std.specs.Prelude.{◌≡◌, ◌<◌, ◌≤◌, length};
+ghost use Rattle.std.specs.Prelude.{◌≡◌, ℕ, ◌<◌, ◌≤◌, length};
 ghost use Rattle.protocol.specs.Lists.{Each};
 ghost use Rattle.protocol.specs.Slots.{table_in};
 ghost use Rattle.device.specs.Meaning.{Lawful};
@@ -9,6 +9,9 @@ use protocol::{EdgeTable, LETTERS, STATIONS};
 
 pub trait Rig {
     ghost ports: { Self → Ports };
+
+    // What a letter to a port may do to every device that it holds, as a value: those behind the eighth too.
+    ghost asks: { Self → ℕ → ℕ → ℕ → Self → Type 0 };
 
     fn count(&self) -> u8
         ensures { result ≡ length (ports self.now) };
@@ -41,7 +44,9 @@ pub trait Rig {
     }
 
     fn ask(&mut self, port: u8, letter: u8) -> u8
-        ensures { RigHears (ports self.old) port letter result (ports self.new) };
+        ensures hears { RigHears (ports self.old) port letter result (ports self.new) }
+        ensures asks { asks self.old port letter result self.new }
+        ensures missing { length (ports self.old) ≤ port → self.new ≡ self.old };
 
     // 1 to 8 ports, each of a lawful device.
     ghost lawful: { (r : Self) → Each Lawful (ports r) };
