@@ -5,7 +5,8 @@ ghost use Rattle.protocol.specs.Slots.{table_in};
 ghost use Rattle.device.specs.Meaning.{Lawful};
 ghost use Rattle.device.specs.Ports.{Ports, RigHears, edge_at, has_table_at, heard_at, station_at};
 
-use protocol::{EdgeTable, LETTERS, STATIONS};
+use crate::lookup::same_successor;
+use protocol::{ANSWERS, EdgeTable, LETTERS, STATIONS};
 
 pub trait Rig {
     ghost ports: { Self → Ports };
@@ -32,13 +33,11 @@ pub trait Rig {
         port < self.count()
             && (0..LETTERS).all(|letter| {
                 (0..STATIONS).all(|station| {
-                    let here = [
-                        self.edge(port, station, letter, 0),
-                        self.edge(port, station, letter, 1),
-                        self.edge(port, station, letter, 2),
-                        self.edge(port, station, letter, 3),
-                    ];
-                    here == table.successors(station, letter)
+                    (0..ANSWERS).all(|answer| {
+                        let here = self.edge(port, station, letter, answer);
+                        let there = table.edge(station, letter, answer);
+                        same_successor(here, there)
+                    })
                 })
             })
     }
