@@ -1,8 +1,12 @@
 -- A letter to a port of a rig that is built of devices.
-use Rattle.std.proofs.Common.{◌≡◌, ℕ, zero, suc, ◌<◌, ◌≤◌, List, ◌∷◌, length, take, sym, subst, arith}
+use Rattle.std.proofs.Common.{◌≡◌, ℕ, zero, suc, ◌<◌, ◌≤◌, true, List, ◌∷◌, length, take, ltb, sym, refl, ap, ◌∙◌, subst, arith, le-ltb, length-take}
+use Rattle.std.specs.Bool.{MatchBool}
+use Rattle.protocol.proofs.Tests.{is_less}
+use Rattle.device.specs.declared.rigs.before.Before.{Before}
+use Rattle.device.specs.Asked.{Refuses, SingleAsks, BeforeAsks}
 use Rattle.device.specs.Meaning.{Meaning, Hears}
 use Rattle.device.specs.Ports.{Ports, RigHears, here, there, missing}
-use Rattle.device.specs.Built.{row_ports, before_ports, row_few}
+use Rattle.device.specs.Built.{row_ports, before_ports, before_some, row_few}
 use Rattle.device.proofs.Numbered.{past_ports}
 
 -- a port that is among the first is theirs
@@ -23,3 +27,37 @@ asks_rest p q w r = at_port (suc q) p w.0 (among_first 8 (omega (arith, w.0, w.1
 
 pub asks_none : (ms : List Meaning) (p l : ℕ) → 8 ≤ p → RigHears (row_ports ms) p l 255 (row_ports ms)
 asks_none ms p l h = past_ports (row_ports ms) p l (let few : length (row_ports ms) ≤ 8 = row_few ms in omega arith)
+
+-- Every device that the rig holds, as a value
+
+pub single_asks : {D : Type 0} (meaning : D → Meaning) (d d' : D) (p l a : ℕ) → p ≡ 0 → Hears (meaning d) l a (meaning d') → SingleAsks meaning d p l a d'
+single_asks meaning d d' p l a e h = subst (λ (v : ℕ). SingleAsks meaning d v l a d') (sym e) h
+
+pub single_refuses : {D : Type 0} (meaning : D → Meaning) (d : D) (p l : ℕ) → 0 < p → SingleAsks meaning d p l 255 d
+single_refuses meaning d zero l h = absurd (omega arith)
+single_refuses meaning d (suc p) l h = (refl, refl)
+
+module _ {D R : Type 0} (meaning : D → Meaning) (asks : R → ℕ → ℕ → ℕ → R → Type 0) (r : Before D R) where
+  pub before_asks_first : (d' : D) (p l a : ℕ) → p ≡ 0 → Hears (meaning r.first) l a (meaning d') → BeforeAsks meaning asks r p l a (record { first = d'; rest = r.rest })
+  before_asks_first d' p l a e h = subst (λ (v : ℕ). BeforeAsks meaning asks r v l a (record { first = d'; rest = r.rest })) (sym e) (h, refl)
+
+  pub before_asks_rest : (g' : R) (p q l a : ℕ) → (p ≡ suc q) × (p < 8) → asks r.rest q l a g' → BeforeAsks meaning asks r p l a (record { first = r.first; rest = g' })
+  before_asks_rest g' p q l a w h =
+      let r' : Before D R = record { first = r.first; rest = g' } in
+      subst (λ (v : ℕ). BeforeAsks meaning asks r v l a r') (sym w.0)
+      (subst (λ b. MatchBool b ((r.first ≡ r.first) × asks r.rest q l a g') (Refuses r a r')) (sym (is_less (omega (arith, w.0, w.1)))) (refl, h))
+
+  pub before_refuses : (p l : ℕ) → 8 ≤ p → BeforeAsks meaning asks r p l 255 r
+  before_refuses zero l h = absurd (omega arith)
+  before_refuses (suc p) l h = subst (λ b. MatchBool b ((r.first ≡ r.first) × asks r.rest p l 255 r.rest) (Refuses r 255 r)) (sym (le-ltb p 7 (omega arith))) (refl, refl)
+
+  -- where the rest is as it was
+  pub before_same : (g' : R) → g' ≡ r.rest → ◌≡◌ {A = Before D R} (record { first = r.first; rest = g' }) r
+  before_same g' e = ap (λ (v : R). let r' : Before D R = record { first = r.first; rest = v } in r') e
+
+-- a port that the device before the rig and the rig have is no missing one of both
+pub first_there : (m : Meaning) (g : Ports) (p : ℕ) → p ≡ 0 → length (before_ports m g) ≤ p → ⊥
+first_there m g p e h = omega (arith, before_some m g)
+
+pub rest_missing : (m : Meaning) (g : Ports) (p q : ℕ) → (p ≡ suc q) × (p < 8) → length (before_ports m g) ≤ p → length g ≤ q
+rest_missing m g p q w h = let long = length-take 8 (m ∷ g) in omega (arith, w.0, w.1)

@@ -7,6 +7,7 @@ pub mod Patch
 pub mod Rings
 pub mod Trail
 pub mod Ports
+pub mod Asked
 pub mod Built
 pub mod Parts
 pub mod Composed

@@ -4,6 +4,7 @@ ghost use Rattle.protocol.specs.Slots.{table_in};
 ghost use Rattle.protocol.specs.Tables.{allowed, same_answers, same_letter, same_table};
 ghost use Rattle.device.specs.Meaning.{Hears, Lawful, Meaning};
 
+use crate::lookup::{leads_on, same_successor};
 use protocol::{ANSWERS, EdgeTable, LETTERS, STATIONS};
 
 pub trait Device {
@@ -31,13 +32,11 @@ pub trait Device {
         ensures { result ≡ same_letter (meaning self.now).table letter (table_in table.now) named }
     {
         (0..STATIONS).all(|station| {
-            let here = [
-                self.edge(station, letter, 0),
-                self.edge(station, letter, 1),
-                self.edge(station, letter, 2),
-                self.edge(station, letter, 3),
-            ];
-            here == table.successors(station, named)
+            (0..ANSWERS).all(|answer| {
+                let here = self.edge(station, letter, answer);
+                let there = table.edge(station, named, answer);
+                same_successor(here, there)
+            })
         })
     }
 
@@ -56,6 +55,6 @@ pub trait Device {
         ensures { result ≡ allowed (meaning self.now).table (meaning self.now).station letter }
     {
         let station = self.station();
-        (0..ANSWERS).any(|answer| self.edge(station, letter, answer).is_some())
+        (0..ANSWERS).any(|answer| leads_on(self.edge(station, letter, answer)))
     }
 }

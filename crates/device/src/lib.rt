@@ -5,6 +5,7 @@ mod answers;
 mod device;
 mod laws;
 mod letter_map;
+mod lookup;
 mod patch;
 mod projector;
 mod rig;

@@ -1,14 +1,18 @@
 // Devices in a row of ports.
-ghost use Rattle.std.specs.Prelude.{◌≡◌, ◌<◌, ◌≤◌, length};
+ghost use Rattle.std.specs.Prelude.{◌≡◌, ℕ, ◌<◌, ◌≤◌, length};
 ghost use Rattle.protocol.specs.Lists.{Each};
 ghost use Rattle.protocol.specs.Slots.{table_in};
 ghost use Rattle.device.specs.Meaning.{Lawful};
 ghost use Rattle.device.specs.Ports.{Ports, RigHears, edge_at, has_table_at, heard_at, station_at};
 
-use protocol::{EdgeTable, LETTERS, STATIONS};
+use crate::lookup::same_successor;
+use protocol::{ANSWERS, EdgeTable, LETTERS, STATIONS};
 
 pub trait Rig {
     ghost ports: { Self → Ports };
+
+    // What a letter to a port may do to every device that it holds, as a value: those behind the eighth too.
+    ghost asks: { Self → ℕ → ℕ → ℕ → Self → Type 0 };
 
     fn count(&self) -> u8
         ensures { result ≡ length (ports self.now) };
@@ -29,19 +33,19 @@ pub trait Rig {
         port < self.count()
             && (0..LETTERS).all(|letter| {
                 (0..STATIONS).all(|station| {
-                    let here = [
-                        self.edge(port, station, letter, 0),
-                        self.edge(port, station, letter, 1),
-                        self.edge(port, station, letter, 2),
-                        self.edge(port, station, letter, 3),
-                    ];
-                    here == table.successors(station, letter)
+                    (0..ANSWERS).all(|answer| {
+                        let here = self.edge(port, station, letter, answer);
+                        let there = table.edge(station, letter, answer);
+                        same_successor(here, there)
+                    })
                 })
             })
     }
 
     fn ask(&mut self, port: u8, letter: u8) -> u8
-        ensures { RigHears (ports self.old) port letter result (ports self.new) };
+        ensures hears { RigHears (ports self.old) port letter result (ports self.new) }
+        ensures asks { asks self.old port letter result self.new }
+        ensures missing { length (ports self.old) ≤ port → self.new ≡ self.old };
 
     // 1 to 8 ports, each of a lawful device.
     ghost lawful: { (r : Self) → Each Lawful (ports r) };

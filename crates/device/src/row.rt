@@ -2,6 +2,7 @@
 ghost use Rattle.std.specs.Prelude.{◌≡◌, ◌<◌, map, take, vec_len, IfErr, IfOk};
 ghost use Rattle.std.specs.List.{slice_get};
 ghost use Rattle.std.specs.Option.{option_copied};
+ghost use Rattle.device.specs.Asked.{RowAsks};
 ghost use Rattle.device.specs.Built.{each_map, row_few, row_lawful, row_ports, row_some, some_map};
 
 use crate::answers::REFUSED;
@@ -56,6 +57,8 @@ impl<D> Row<D> {
 
 impl<D: Device> Rig for Row<D> {
     ghost ports = { λ r. row_ports (map D.Device.meaning r.devices.items) };
+
+    ghost asks = { λ r p l a r'. RowAsks D.Device.meaning r.devices.items p l a r'.devices.items };
 
     ghost lawful = { λ r. row_lawful (map D.Device.meaning r.devices.items) (each_map D.Device.meaning D.Device.lawful r.devices.items) };
 

@@ -1,8 +1,8 @@
 // Many calls, one after the other.
 ghost use Rattle.std.specs.Prelude.{◌≡◌, ◌+◌, ◌≤◌, map, length, take, vec_items, OnOk, OnErr};
 ghost use Rattle.machine.specs.Runs.{Does, joins};
-ghost use Rattle.player.specs.Performing.{Answers, Makes, Performed, request};
-ghost use Rattle.player.specs.View.{scene};
+ghost use Rattle.player.specs.Performing.{Answers, Leaves, Makes, Performed, longest_log, request};
+ghost use Rattle.player.specs.View.{scene, view};
 
 use crate::player::Player;
 use device::Rig;
@@ -70,8 +70,10 @@ impl<'a> Player<'a> {
     ghost use Rattle.player.specs.Performing.{letters_in};
 
     fn answer<R: Rig>(&mut self, rig: &mut R, call: Call<'a>, log: &mut [Entry]) -> Answer
+        requires { longest_log ≤ length log.old }
         ensures answers { Answers (scene self.old (R.Rig.ports rig.old)) (request call.entry) result (take (letters_in result) log.new) (scene self.new (R.Rig.ports rig.new)) }
         ensures few { letters_in result ≤ length log.new }
+        ensures leaves { Leaves result rig.old rig.new }
     {
         match call {
             Call::Begin(script) => Answer::Begun(self.begin(script, rig)),
@@ -91,8 +93,9 @@ impl Performance {
         call: Call<'a>,
         log: &mut [Entry],
     ) -> Result<(), AllocError>
-        ensures made { OnOk result (Makes self.old (scene player.old (R.Rig.ports rig.old)) (request call.entry) self.new (scene player.new (R.Rig.ports rig.new))) }
-        ensures kept { OnErr result ((vec_items self.new.answers ≡ vec_items self.old.answers) × ((vec_items self.new.log ≡ vec_items self.old.log) × (scene player.new (R.Rig.ports rig.new) ≡ scene player.old (R.Rig.ports rig.old)))) }
+        requires { longest_log ≤ length log.old }
+        ensures made { OnOk result (Makes self.old (scene player.old (R.Rig.ports rig.old)) rig.old (request call.entry) self.new (scene player.new (R.Rig.ports rig.new)) rig.new) }
+        ensures kept { OnErr result ((vec_items self.new.answers ≡ vec_items self.old.answers) × (vec_items self.new.log ≡ vec_items self.old.log) × (view player.new ≡ view player.old) × (rig.new ≡ rig.old)) }
     {
         self.answers.reserve(1)?;
         self.log.reserve(log.len())?;
@@ -108,7 +111,7 @@ pub fn perform<'a, R: Rig>(
     rig: &mut R,
     calls: &[Call<'a>],
 ) -> (Performance, Result<(), AllocError>)
-    ensures { (Performed (R.Rig.ports rig.old) (map request calls.now) result.0 result.1 (R.Rig.ports rig.new)) }
+    ensures { Performed R.Rig.ports rig.old (map request calls.now) result.0 result.1 rig.new }
 {
     let mut player = Player::new();
     let mut show = Performance {

@@ -8,6 +8,7 @@ ghost use Rattle.device.specs.Kept.{projector_lawful};
 use super::Projector;
 use crate::answers::REFUSED;
 use crate::device::Device;
+use crate::lookup::same_successor;
 use crate::tally::Tally;
 use protocol::{AWAY, EdgeTable, JAMMED};
 
@@ -121,7 +122,10 @@ impl Device for Projector<'_> {
     fn letter_fits(&self, letter: u8, table: &EdgeTable, named: u8) -> bool {
         let edges = edges_of(letter);
         usize::from(table.edge_count(named)) == edges.len()
-            && edges.iter().all(|&(from, answer, to)| table.edge(from, named, answer) == Some(to))
+            && edges.iter().all(|&(from, answer, to)| {
+                let there = table.edge(from, named, answer);
+                same_successor(there, Some(to))
+            })
     }
 
     fn ask(&mut self, letter: u8) -> u8

@@ -1,5 +1,6 @@
 // A device before a rig.
 ghost use Rattle.std.specs.Prelude.{◌≡◌};
+ghost use Rattle.device.specs.Asked.{BeforeAsks};
 ghost use Rattle.device.specs.Built.{before_few, before_lawful, before_ports, before_some};
 ghost use Rattle.device.specs.Parts.{IsPart};
 
@@ -62,6 +63,8 @@ impl<D, R> Before<D, R> {
 
 impl<D: Device, R: Rig> Rig for Before<D, R> {
     ghost ports = { λ r. before_ports (D.Device.meaning r.first) (R.Rig.ports r.rest) };
+
+    ghost asks = { BeforeAsks D.Device.meaning R.Rig.asks };
 
     ghost lawful = { λ r. before_lawful (D.Device.meaning r.first) (R.Rig.ports r.rest) (D.Device.lawful r.first) (R.Rig.lawful r.rest) };
 

@@ -2,6 +2,7 @@
 ghost use Rattle.std.specs.Prelude.{◌≡◌, [], ◌∷◌};
 ghost use Rattle.std.specs.List.{slice_get};
 ghost use Rattle.std.specs.Option.{option_copied};
+ghost use Rattle.device.specs.Asked.{SingleAsks};
 ghost use Rattle.device.specs.Built.{single_few, single_lawful, single_ports, single_some};
 
 use crate::answers::REFUSED;
@@ -46,6 +47,8 @@ impl<D> Single<D> {
 
 impl<D: Device> Rig for Single<D> {
     ghost ports = { λ r. single_ports (D.Device.meaning r.device) };
+
+    ghost asks = { λ r p l a r'. SingleAsks D.Device.meaning r.device p l a r'.device };
 
     ghost lawful = { λ r. single_lawful (D.Device.meaning r.device) (D.Device.lawful r.device) };
 

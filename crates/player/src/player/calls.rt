@@ -1,5 +1,5 @@
 // The calls of a player.
-ghost use Rattle.std.specs.Prelude.{◌≡◌, ℕ};
+ghost use Rattle.std.specs.Prelude.{◌≡◌, ℕ, OnErr};
 ghost use Rattle.script.specs.Held.{script_held};
 ghost use Rattle.machine.specs.Calls.{Begins, Goes, Looks, Strikes};
 ghost use Rattle.machine.specs.Player.{new_player};
@@ -53,7 +53,8 @@ impl<'a> Player<'a> {
 
     // At most n steps; the log has its letters from the first entry on.
     pub fn go<R: Rig>(&mut self, n: u32, rig: &mut R, log: &mut [Entry]) -> Result<Report, Fault>
-        ensures { (own : ℕ) × Goes (view self.old) n (R.Rig.ports rig.old) log.old result own (view self.new) (R.Rig.ports rig.new) log.new }
+        ensures goes { (own : ℕ) × Goes (view self.old) n (R.Rig.ports rig.old) log.old result own (view self.new) (R.Rig.ports rig.new) log.new }
+        ensures refused { OnErr result (rig.new ≡ rig.old) }
     {
         if self.stage.over {
             return Err(StageCause::Over.at(NOWHERE));
@@ -80,7 +81,8 @@ impl<'a> Player<'a> {
 
     // A fault exit on call; answers the count of letters.
     pub fn strike<R: Rig>(&mut self, rig: &mut R, log: &mut [Entry]) -> Result<u32, Fault>
-        ensures { Strikes (view self.old) (R.Rig.ports rig.old) log.old result (view self.new) (R.Rig.ports rig.new) log.new }
+        ensures strikes { Strikes (view self.old) (R.Rig.ports rig.old) log.old result (view self.new) (R.Rig.ports rig.new) log.new }
+        ensures refused { OnErr result (rig.new ≡ rig.old) }
     {
         if self.stage.over {
             return Err(StageCause::Over.at(NOWHERE));

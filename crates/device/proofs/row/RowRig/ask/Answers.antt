@@ -1,14 +1,34 @@
-use Rattle.std.proofs.Common.{sym, refl, true≢false, arith}
-use Rattle.device.proofs.Rows.{row_asks, row_missing}
+use Rattle.std.proofs.Common.{◌<◌, sym, refl, vec_len, true≢false, arith}
+use Rattle.device.proofs.Rows.{row_asks, row_asks_device, row_missing, row_refuses, row_there, same_row}
 use Rattle.device.proofs.row.RowRig.ask.Goals as goal
 
 pub returns-in-Some : goal.returns-in-Some
 returns-in-Some g c =
-    row_asks g.D.Device.meaning c.args.self.now.devices c.args.port c.in-Some.device.now c.ask.new.self c.args.letter c.ask.result
-    (omega arith) (c.in-Some.ensures.variant.0 refl) c.in-Some.ensures.value c.ask.ensures
+    let devices = c.args.self.now.devices in
+    let few : c.args.port < 8 = omega arith in
+    let within : c.args.port < vec_len devices = c.in-Some.ensures.variant.0 refl in
+    record {
+      hears = row_asks g.D.Device.meaning devices c.args.port c.in-Some.device.now c.ask.new.self c.args.letter c.ask.result few within c.in-Some.ensures.value c.ask.ensures;
+      asks = row_asks_device g.D.Device.meaning devices c.args.port c.in-Some.device.now c.ask.new.self c.args.letter c.ask.result few within c.in-Some.ensures.value c.ask.ensures;
+      missing = λ long. absurd (row_there g.D.Device.meaning devices c.args.port few within long);
+    }
 
 pub returns-in-None : goal.returns-in-None
-returns-in-None g c = row_missing g.D.Device.meaning c.args.self.now.devices c.args.port c.args.letter (λ few within. true≢false (sym (c.in-None.ensures.variant.1 within)))
+returns-in-None g c =
+    let devices = c.args.self.now.devices in
+    let outside : c.args.port < 8 → c.args.port < vec_len devices → ⊥ = λ few within. true≢false (sym (c.in-None.ensures.variant.1 within)) in
+    record {
+      hears = row_missing g.D.Device.meaning devices c.args.port c.args.letter outside;
+      asks = row_refuses g.D.Device.meaning devices c.args.port c.args.letter outside;
+      missing = λ long. same_row _ _ refl;
+    }
 
 pub returns-then-port-ge-PORTS : goal.returns-then-port-ge-PORTS
-returns-then-port-ge-PORTS g c = row_missing g.D.Device.meaning c.args.self.now.devices c.args.port c.args.letter (λ few within. omega arith)
+returns-then-port-ge-PORTS g c =
+    let devices = c.args.self.now.devices in
+    let outside : c.args.port < 8 → c.args.port < vec_len devices → ⊥ = λ few within. omega arith in
+    record {
+      hears = row_missing g.D.Device.meaning devices c.args.port c.args.letter outside;
+      asks = row_refuses g.D.Device.meaning devices c.args.port c.args.letter outside;
+      missing = λ long. refl;
+    }
