@@ -23,14 +23,14 @@ Answers number held (rig plans) answer es held' =
 Answers number held (stage command) answer es held' = (a : Answer) × (answer ≡ Some a) × Acts number held command a es held'
 Answers number held unknown answer es held' = (answer ≡ Some (NotUnderstood number)) × (es ≡ []) × (held' ≡ held)
 
--- the replies of the held projectors after a line, but for those that a go or a strike takes
+-- the replies of the held projectors after a line of devices; what any other line leaves of the rig, `LeavesRig` says
 abbrev pub Replies : Parsed → Option (List (List ℕ)) → Option (List (List ℕ)) → Type 0
-Replies blank old new = new ≡ old
-Replies (book bs) old new = new ≡ old
-Replies (script bs) old new = new ≡ old
+Replies blank old new = Unit {0}
+Replies (book bs) old new = Unit {0}
+Replies (script bs) old new = Unit {0}
 Replies (rig plans) old new = new ≡ replies_after old plans (mounted plans)
 Replies (stage command) old new = Unit {0}
-Replies unknown old new = new ≡ old
+Replies unknown old new = Unit {0}
 
 abbrev pub printed : Option Answer → List Entry → List ℕ
 printed None es = []
