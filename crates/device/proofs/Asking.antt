@@ -1,5 +1,5 @@
 -- A letter to a port of a rig that is built of devices.
-use Rattle.std.proofs.Common.{◌≡◌, ℕ, zero, suc, ◌<◌, ◌≤◌, true, List, ◌∷◌, length, take, ltb, sym, refl, ap, ◌∙◌, subst, arith, le-ltb, length-take}
+use Rattle.std.proofs.Common.{◌≡◌, ℕ, zero, suc, ◌<◌, ◌≤◌, List, ◌∷◌, length, take, sym, refl, ap, subst, arith, le-ltb, length-take}
 use Rattle.std.specs.Bool.{MatchBool}
 use Rattle.protocol.proofs.Tests.{is_less}
 use Rattle.device.specs.declared.rigs.before.Before.{Before}
@@ -51,11 +51,11 @@ module _ {D R : Type 0} (meaning : D → Meaning) (asks : R → ℕ → ℕ → 
   before_refuses zero l h = absurd (omega arith)
   before_refuses (suc p) l h = subst (λ b. MatchBool b ((r.first ≡ r.first) × asks r.rest p l 255 r.rest) (Refuses r 255 r)) (sym (le-ltb p 7 (omega arith))) (refl, refl)
 
-  -- where the rest is as it was
-  pub before_same : (g' : R) → g' ≡ r.rest → ◌≡◌ {A = Before D R} (record { first = r.first; rest = g' }) r
-  before_same g' e = ap (λ (v : R). let r' : Before D R = record { first = r.first; rest = v } in r') e
+-- where the rest is as it was, so is the rig
+pub before_same : {D R : Type 0} (r : Before D R) (g' : R) → g' ≡ r.rest → ◌≡◌ {A = Before D R} (record { first = r.first; rest = g' }) r
+before_same {D} {R} r g' e = ap (λ (v : R). let r' : Before D R = record { first = r.first; rest = v } in r') e
 
--- a port that the device before the rig and the rig have is no missing one of both
+-- port 0 is never missing, and another is missing only where the rest lacks it
 pub first_there : (m : Meaning) (g : Ports) (p : ℕ) → p ≡ 0 → length (before_ports m g) ≤ p → ⊥
 first_there m g p e h = omega (arith, before_some m g)
 

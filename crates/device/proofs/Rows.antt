@@ -1,5 +1,5 @@
 -- A letter to a port of devices in a row: the first eight are ports.
-use Rattle.std.proofs.Common.{◌≡◌, ℕ, ◌<◌, ◌≤◌, Some, None, Option, List, map, length, get_or, set, take, vec_items, vec_len, Vec, sym, refl, ap, ◌∙◌, subst, arith, get_or-take, length-take}
+use Rattle.std.proofs.Common.{◌≡◌, ℕ, ◌<◌, ◌≤◌, Option, List, map, length, get_or, set, take, vec_items, vec_len, Vec, sym, refl, ap, ◌∙◌, subst, arith, get_or-take, length-take}
 use Rattle.std.specs.List.{slice_get}
 use Rattle.std.specs.Option.{MatchOption}
 use Rattle.std.proofs.lemmas.Option.{slice_get_past, slice_get_read}

@@ -1,1 +1,2 @@
 pub mod Lamp
+pub mod Dimmer

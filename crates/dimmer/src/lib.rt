@@ -1,8 +1,8 @@
 // A lamp behind a dimmer: a small device, to be copied.
 #![tactic(auto)]
 
-ghost use Rattle.std.specs.Prelude.{◌≡◌, ◌<◌, [], ◌∷◌};
-ghost use Rattle.dimmer.specs.Lamp.{dimmer_ranged, dimmer_rule, dimmer_table, level_after, reply_of};
+ghost use Rattle.std.specs.Prelude.{◌≡◌, ◌<◌};
+ghost use Rattle.dimmer.specs.Lamp.{dimmer_ranged, dimmer_table, level_after, reply_of};
 
 use device::{Device, REFUSED, Tally};
 use protocol::{AWAY, JAMMED};
@@ -98,7 +98,10 @@ impl Dimmer {
 }
 
 impl Device for Dimmer {
-    ghost meaning = { λ d. record { table = dimmer_table; station = d.station; heard = d.tally.heard; letter = d.tally.letter; answer = d.tally.answer; memory = d.level ∷ []; rule = dimmer_rule } };
+    ghost use Rattle.device.specs.Meaning.{Hears};
+    ghost use Rattle.dimmer.specs.Dimmer.{answer_of, dimmer_meaning};
+
+    ghost meaning = { dimmer_meaning };
 
     ghost lawful = { λ d. record { ranged = dimmer_ranged; standing = d.standing; counted = d.tally.counted } };
 
@@ -114,7 +117,11 @@ impl Device for Dimmer {
         self.tally.heard()
     }
 
-    fn ask(&mut self, letter: u8) -> u8 {
+    // The first clause is the trait's. Which declared answer it gives is the second.
+    fn ask(&mut self, letter: u8) -> u8
+        ensures hears { Hears (dimmer_meaning self.old) letter result (dimmer_meaning self.new) }
+        ensures answer { result ≡ answer_of self.old letter }
+    {
         let answer = self.reply(letter);
         match edge(self.station, letter, answer) {
             Some(station) => {

@@ -20,8 +20,7 @@ returns-in-Some-Rest g c =
     record {
       hears = asks_rest c.args.port c.in-Some-Rest.port part asked.ensures.hears;
       asks = before_asks_rest g.D.Device.meaning g.R.Rig.asks rig asked.new.self c.args.port c.in-Some-Rest.port c.args.letter asked.result part asked.ensures.asks;
-      missing = λ long. before_same g.D.Device.meaning g.R.Rig.asks rig asked.new.self
-          (asked.ensures.missing (rest_missing (g.D.Device.meaning rig.first) (g.R.Rig.ports rig.rest) c.args.port c.in-Some-Rest.port part long));
+      missing = λ long. before_same rig asked.new.self (asked.ensures.missing (rest_missing (g.D.Device.meaning rig.first) (g.R.Rig.ports rig.rest) c.args.port c.in-Some-Rest.port part long));
     }
 
 pub returns-in-None : goal.returns-in-None
