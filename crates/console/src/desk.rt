@@ -1,7 +1,7 @@
 // What the console holds between two lines, and how a line changes it.
-ghost use Rattle.std.specs.Prelude.{◌≡◌, map, IfOk, OnErr, OnOk};
+ghost use Rattle.std.specs.Prelude.{◌≡◌, map, IfOk, MatchResult, OnErr, OnOk};
 ghost use Rattle.book.specs.Reading.{read_book};
-ghost use Rattle.console.specs.Acts.{entries_for};
+ghost use Rattle.console.specs.Acts.{LeavesRig, LeavesRigFor, entries_for};
 ghost use Rattle.console.specs.Answers.{count_kinds, count_parts, rig_answer};
 ghost use Rattle.console.specs.Held.{book_after, held_of, nothing_held, rig_after, script_after, script_read};
 ghost use Rattle.console.specs.Plans.{mounted, planned};
@@ -59,6 +59,7 @@ impl<'a> Desk<'a> {
     pub fn check_book(&mut self, bytes: &'a [u8]) -> Result<u8, Fault>
         ensures answer { result ≡ count_kinds (read_book bytes.now) }
         ensures held { held_of self.new ≡ book_after (held_of self.old) bytes.now (read_book bytes.now) }
+        ensures rig { self.new.rig ≡ self.old.rig }
     {
         self.book.check(bytes)?;
         self.script = Script::new();
@@ -69,6 +70,7 @@ impl<'a> Desk<'a> {
     pub fn check_script(&mut self, bytes: &'a [u8]) -> Result<u8, Fault>
         ensures answer { result ≡ count_parts (script_read (held_of self.old) bytes.now) }
         ensures held { held_of self.new ≡ script_after (held_of self.old) (script_read (held_of self.old) bytes.now) }
+        ensures rig { self.new.rig ≡ self.old.rig }
     {
         self.script.check(&self.book, bytes)?;
         Ok(self.script.parts())
@@ -84,6 +86,7 @@ impl<'a> Desk<'a> {
         ensures answer { IfOk result (λ answer. answer ≡ rig_answer number (mounted (map planned plans.now))) }
         ensures held { OnOk result (held_of self.new ≡ rig_after (held_of self.old) (mounted (map planned plans.now))) }
         ensures lost { OnErr result (held_of self.new ≡ held_of self.old) }
+        ensures rig { MatchResult result (λ answer. LeavesRig answer self.old.rig self.new.rig) (λ error. self.new.rig ≡ self.old.rig) }
     {
         let devices = match build_all::<Nest<'a>>(heap, plans)? {
             Ok(devices) => devices,
@@ -108,6 +111,7 @@ impl<'a> Desk<'a> {
     ) -> Result<Option<Answer>, AllocError>
         ensures answers { IfOk result (λ answer. Answers number (held_of self.old) (view line.now) answer (entries_for self.new answer) (held_of self.new)) }
         ensures lost { OnErr result (held_of self.new ≡ held_of self.old) }
+        ensures rig { MatchResult result (λ answer. LeavesRigFor answer self.old.rig self.new.rig) (λ error. self.new.rig ≡ self.old.rig) }
     {
         match line {
             None => Ok(None),
