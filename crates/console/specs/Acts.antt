@@ -1,5 +1,5 @@
 -- What a call of the player, or a look at the ports, answers, and the entries that it wrote.
-use Rattle.std.specs.Prelude.{◌≡◌, ℕ, List, [], length, take, Some, None, Ok, Err, Option, Result, cond, nat_le}
+use Rattle.std.specs.Prelude.{◌≡◌, ℕ, List, [], length, take, Some, None, Ok, Err, OnErr, Option, Result, cond, nat_le}
 use Rattle.faults.specs.declared.fault.Fault.{Fault}
 use Rattle.protocol.specs.declared.edges.Entry.{Entry}
 use Rattle.device.specs.Ports as shown
@@ -37,6 +37,24 @@ entries_of d answer = take (letters_in answer) d.log
 abbrev pub entries_for : Desk → Option Answer → List Entry
 entries_for d None = []
 entries_for d (Some answer) = entries_of d answer
+
+-- What an answer leaves of the rig that is held, as a value: only an accepted go or strike, or a new rig, may change it.
+abbrev pub LeavesRig : {R : Type 0} → Answer → R → R → Type 0
+LeavesRig (answers.Book r) rig rig' = rig' ≡ rig
+LeavesRig (answers.Script r) rig rig' = rig' ≡ rig
+LeavesRig (answers.Rig r) rig rig' = OnErr r (rig' ≡ rig)
+LeavesRig answers.Player rig rig' = rig' ≡ rig
+LeavesRig (Begun r) rig rig' = rig' ≡ rig
+LeavesRig (Went r) rig rig' = OnErr r (rig' ≡ rig)
+LeavesRig (Looked r) rig rig' = rig' ≡ rig
+LeavesRig (Struck r) rig rig' = OnErr r (rig' ≡ rig)
+LeavesRig (answers.Ports lines) rig rig' = rig' ≡ rig
+LeavesRig (NotUnderstood number) rig rig' = rig' ≡ rig
+
+-- a line that is not answered leaves it as well
+abbrev pub LeavesRigFor : {R : Type 0} → Option Answer → R → R → Type 0
+LeavesRigFor None rig rig' = rig' ≡ rig
+LeavesRigFor (Some answer) rig rig' = LeavesRig answer rig rig'
 
 -- a log has at most 4096 entries
 abbrev pub room_of : ℕ → ℕ

@@ -1,8 +1,8 @@
 // The calls of the player on the desk's rig, and a look at its ports.
-ghost use Rattle.std.specs.Prelude.{◌≡◌, ◌≤◌, take};
+ghost use Rattle.std.specs.Prelude.{◌≡◌, ◌≤◌, take, OnErr};
 ghost use Rattle.player.specs.View.{view};
 ghost use Rattle.console.specs.declared.answer.Answer.TheVariants.{Went, Struck};
-ghost use Rattle.console.specs.Acts.{Acts, BeginsOn, GoesIn, GoesOn, StrikesIn, StrikesOn, entries_of, letters_in, room_of};
+ghost use Rattle.console.specs.Acts.{Acts, BeginsOn, GoesIn, GoesOn, LeavesRig, StrikesIn, StrikesOn, entries_of, letters_in, room_of};
 ghost use Rattle.console.specs.Answers.{ports_answer};
 ghost use Rattle.console.specs.Held.{held_of};
 
@@ -44,7 +44,8 @@ fn go_in<R: Rig>(
     room: usize,
 ) -> Result<Report, Fault>
     requires { room ≤ 4096 }
-    ensures { GoesIn (view player.old) steps room (R.Rig.ports rig.old) result (take (letters_in (Went result)) log.new) (view player.new) (R.Rig.ports rig.new) }
+    ensures goes { GoesIn (view player.old) steps room (R.Rig.ports rig.old) result (take (letters_in (Went result)) log.new) (view player.new) (R.Rig.ports rig.new) }
+    ensures refused { OnErr result (rig.new ≡ rig.old) }
 {
     player.go(steps, rig, &mut log[..room])
 }
@@ -57,7 +58,8 @@ fn strike_in<R: Rig>(
     room: usize,
 ) -> Result<u32, Fault>
     requires { room ≤ 4096 }
-    ensures { StrikesIn (view player.old) room (R.Rig.ports rig.old) result (take (letters_in (Struck result)) log.new) (view player.new) (R.Rig.ports rig.new) }
+    ensures strikes { StrikesIn (view player.old) room (R.Rig.ports rig.old) result (take (letters_in (Struck result)) log.new) (view player.new) (R.Rig.ports rig.new) }
+    ensures refused { OnErr result (rig.new ≡ rig.old) }
 {
     player.strike(rig, &mut log[..room])
 }
@@ -65,7 +67,8 @@ fn strike_in<R: Rig>(
 impl<'a> Desk<'a> {
     // The answer to a command in the line of that number. Nothing is borrowed from the line.
     pub fn act(&mut self, number: u64, command: StageCommand) -> Answer
-        ensures { Acts number (held_of self.old) command result (entries_of self.new result) (held_of self.new) }
+        ensures acts { Acts number (held_of self.old) command result (entries_of self.new result) (held_of self.new) }
+        ensures rig { LeavesRig result self.old.rig self.new.rig }
     {
         match command {
             StageCommand::Player => {
@@ -93,7 +96,8 @@ impl<'a> Desk<'a> {
     }
 
     fn begin(&mut self, number: u64) -> Answer
-        ensures { BeginsOn number (held_of self.old) (held_of self.old).rig result (entries_of self.new result) (held_of self.new) }
+        ensures begins { BeginsOn number (held_of self.old) (held_of self.old).rig result (entries_of self.new result) (held_of self.new) }
+        ensures rig { LeavesRig result self.old.rig self.new.rig }
     {
         match &self.rig {
             Some(rig) => Answer::Begun(self.player.begin(&self.script, rig)),
@@ -103,7 +107,8 @@ impl<'a> Desk<'a> {
 
     fn go(&mut self, number: u64, steps: u32, room: usize) -> Answer
         requires { room ≤ 4096 }
-        ensures { GoesOn number (held_of self.old) steps room (held_of self.old).rig result (entries_of self.new result) (held_of self.new) }
+        ensures goes { GoesOn number (held_of self.old) steps room (held_of self.old).rig result (entries_of self.new result) (held_of self.new) }
+        ensures rig { LeavesRig result self.old.rig self.new.rig }
     {
         match &mut self.rig {
             Some(rig) => Answer::Went(go_in(&mut self.player, rig, &mut self.log, steps, room)),
@@ -113,7 +118,8 @@ impl<'a> Desk<'a> {
 
     fn strike(&mut self, number: u64, room: usize) -> Answer
         requires { room ≤ 4096 }
-        ensures { StrikesOn number (held_of self.old) room (held_of self.old).rig result (entries_of self.new result) (held_of self.new) }
+        ensures strikes { StrikesOn number (held_of self.old) room (held_of self.old).rig result (entries_of self.new result) (held_of self.new) }
+        ensures rig { LeavesRig result self.old.rig self.new.rig }
     {
         match &mut self.rig {
             Some(rig) => Answer::Struck(strike_in(&mut self.player, rig, &mut self.log, room)),

@@ -4,7 +4,8 @@ use Rattle.player.specs.View.{view}
 use Rattle.console.proofs.Acting.{went_in}
 use Rattle.console.proofs.desk.acts.go_in.Goals as goal
 
-pub returns : goal.returns
-returns g c =
+pub returns-clause-goes : goal.returns-clause-goes
+returns-clause-goes g c =
     let log = c.args.log.now in
-    (c.go.ensures.0, take c.args.room log, c.go.new.log, c.go.ensures.1, length-take-le c.args.room log (omega (arith, c.requires)), went_in (view c.args.player.now) (g.R.Rig.ports c.args.rig.now) (take c.args.room log) (view c.go.new.self) (g.R.Rig.ports c.go.new.rig) c.go.new.log (drop c.args.room log) c.args.steps c.go.result c.go.ensures.0 c.go.ensures.1)
+    let went = c.go.ensures.goes in
+    (went.0, take c.args.room log, c.go.new.log, went.1, length-take-le c.args.room log (omega (arith, c.requires)), went_in (view c.args.player.now) (g.R.Rig.ports c.args.rig.now) (take c.args.room log) (view c.go.new.self) (g.R.Rig.ports c.go.new.rig) c.go.new.log (drop c.args.room log) c.args.steps c.go.result went.0 went.1)
