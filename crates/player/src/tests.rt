@@ -239,3 +239,18 @@ fn eight_ports(rt: HostRuntime) -> Result<(), Fail> {
     assert_eq!(rt; refused.log.len(), 0);
     Ok(())
 }
+
+// Where memory ends, the calls made until then are answered, and no other: `rt try --test --fail-alloc N` ends it at the Nth request.
+#[test]
+fn without_memory_a_show_ends_between_two_calls(rt: HostRuntime) -> Result<(), Fail> {
+    let calls = [Call::Go(1), Call::Look(0), Call::Strike];
+    let answers = [
+        Answer::Went(Err(StageCause::Over.at(NOWHERE))),
+        Answer::Looked(Err(StageCause::NoSuchPort.at(0))),
+        Answer::Struck(Err(StageCause::Over.at(NOWHERE))),
+    ];
+    let (played, done) = perform(rt.alloc(), &mut Single::new(Projector::new(&[])), &calls);
+    assert!(rt; answers.starts_with(played.answers.as_slice()));
+    assert_eq!(rt; done.is_ok(), played.answers.len() == calls.len());
+    Ok(())
+}
