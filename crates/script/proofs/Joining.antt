@@ -1,13 +1,15 @@
 -- What values have in common, and blocks that must be empty.
-use Rattle.std.proofs.Common.{◌≡◌, ℕ, zero, suc, ◌+◌, ◌<◌, ◌≤◌, Bool, true, false, cond, ◌&&◌, eqb, List, [], ◌∷◌, length, get_or, take, drop, Some, None, Option, sym, refl, ap, ◌∙◌, arith, length-drop}
+use Rattle.std.proofs.Common.{◌≡◌, ℕ, suc, ◌<◌, Bool, true, false, cond, ◌&&◌, ◌||◌, eqb, List, [], ◌∷◌, map, length, get_or, drop, is_some, Some, None, Option, sym, refl, ap, ◌∙◌, arith}
 use Rattle.std.specs.Bool.{then_some}
-use Rattle.std.specs.List.{list_all}
+use Rattle.std.specs.List.{list_all, zip}
 use Rattle.protocol.specs.Lists.{all}
 use Rattle.protocol.proofs.Tests.{other_numbers}
-use Rattle.rules.specs.Lists.{empty, same, total}
-use Rattle.rules.specs.Script.{Keys, cut}
+use Rattle.rules.specs.Lists.{empty, same}
+use Rattle.rules.specs.Script.{Keys}
 use Rattle.rules.specs.Check.{join, undeclared_empty}
-use Rattle.script.specs.Ends.{all_spare, common_by}
+use Rattle.script.specs.declared.block.Block as code
+use Rattle.script.specs.Ends.{common_by}
+use Rattle.script.specs.Pieces.{piece}
 
 module _ (test : Keys → Keys → Bool) (is_same : (a b : Keys) → test b a ≡ same a b) where
   all_same : (ks : Keys) (ends : List Keys) → all (same ks) ends ≡ list_all (λ e. test e ks) ends
@@ -23,17 +25,19 @@ none_left [] = refl
 none_left (None ∷ ts) = none_left ts
 none_left (Some t ∷ ts) = none_left ts
 
-no_bytes : (n : ℕ) (bs : List ℕ) → n ≤ length bs → empty (take n bs) ≡ eqb n 0
-no_bytes zero bs le = refl
-no_bytes (suc n) [] le = absurd (omega arith)
-no_bytes (suc n) (b ∷ bs) le = sym (other_numbers (suc n) 0 (λ e. omega arith))
+no_bytes : (bs : List ℕ) → eqb (length bs) 0 ≡ empty bs
+no_bytes [] = refl
+no_bytes (b ∷ bs) = other_numbers (suc (length bs)) 0 (λ e. omega arith)
 
-pub spare_where : (ts : List (Option ℕ)) (ns : List ℕ) (p : ℕ) (bs : List ℕ) → total ns ≤ length bs → undeclared_empty ts (cut p bs ns) ≡ all_spare ts ns
-spare_where [] ns p bs le = refl
-spare_where (None ∷ ts) [] p bs le = none_left ts
-spare_where (Some t ∷ ts) [] p bs le = none_left ts
-spare_where (None ∷ ts) (n ∷ ns) p bs le = λ i. no_bytes n bs (omega arith) i && spare_where ts ns (p + n) (drop n bs) (omega (arith, length-drop n bs)) i
-spare_where (Some t ∷ ts) (n ∷ ns) p bs le = spare_where ts ns (p + n) (drop n bs) (omega (arith, length-drop n bs))
+abbrev pub one_spare : Option ℕ × code.Block → Bool
+one_spare p = is_some p.0 || eqb (length p.1.bytes.now) 0
+
+pub all_spare : (ts : List (Option ℕ)) (bs : List code.Block) → list_all one_spare (zip ts bs) ≡ undeclared_empty ts (map piece bs)
+all_spare [] bs = refl
+all_spare (None ∷ ts) [] = sym (none_left ts)
+all_spare (Some t ∷ ts) [] = sym (none_left ts)
+all_spare (None ∷ ts) (b ∷ bs) = λ i. no_bytes b.bytes.now i && all_spare ts bs i
+all_spare (Some t ∷ ts) (b ∷ bs) = all_spare ts bs
 
 -- One by one
 

@@ -13,11 +13,7 @@ use Rattle.rules.specs.Check.{Checks, branches, check_body, check_read, check_wh
 use Rattle.rules.proofs.Fuel.{unrolls}
 use Rattle.script.specs.declared.command.Command as code
 use Rattle.script.specs.Commands.{in_range_so, said}
-use Rattle.script.specs.declared.blocks.Blocks.{Blocks}
-use Rattle.script.specs.Ends.{all_spare}
-use Rattle.script.specs.Pieces.{pieces}
 use Rattle.script.specs.Walk.{allowed_at, ask_keys, block_keys, branch_ends, command_after}
-use Rattle.script.proofs.Joining.{spare_where}
 use Rattle.script.proofs.Turns.{needed_first, unmet, stops as carried}
 
 module _ (x : Scope) (d : ℕ) (b : Block) (ks : Keys) where
@@ -100,25 +96,24 @@ module _ (x : Scope) (d place : ℕ) (ks : Keys) (c v : code.Command) (e : c ≡
       in_place x d place (said c) ks r (ap (λ (w : code.Command). depth_fits d (said w)) e ∙ f)
       ∙ ap (λ (w : code.Command). command_keys (block_keys x (suc d)) x place (said w) ks) e
 
--- an ASK whose answers lead there
-module _ (x : Scope) (d place h l : ℕ) (ks : Keys) (ts : List (Option ℕ)) (bs : Blocks) (e : Ok ts ≡ allowed_at x place h l ks) where
-  is_asked : ask_keys x d place h l (pieces bs) ks ≡ asked (block_keys x d) x place h l ks (pieces bs) ts
-  is_asked = after_allowed_ask (block_keys x d) x place h l ks (pieces bs) ∙ follows (asked (block_keys x d) x place h l ks (pieces bs)) (sym e)
+-- an ASK whose answers lead there, and whose blocks are these
+module _ (x : Scope) (d place h l : ℕ) (ks : Keys) (ts : List (Option ℕ)) (bs all : List Block) (same_blocks : bs ≡ all) (e : Ok ts ≡ allowed_at x place h l ks) where
+  is_asked : ask_keys x d place h l all ks ≡ asked (block_keys x d) x place h l ks bs ts
+  is_asked =
+      after_allowed_ask (block_keys x d) x place h l ks all ∙ follows (asked (block_keys x d) x place h l ks all) (sym e)
+      ∙ ap (λ v. asked (block_keys x d) x place h l ks v ts) (sym same_blocks)
 
-  spare_so : undeclared_empty ts (pieces bs) ≡ all_spare ts bs.lengths
-  spare_so = spare_where ts bs.lengths bs.whole.place bs.whole.bytes.now (omega (arith, bs.exact))
+  pub not_spare : undeclared_empty ts bs ≡ false → ask_keys x d place h l all ks ≡ Err (key_fault UndeclaredBlock place)
+  not_spare f = is_asked ∙ unmet (undeclared_empty ts bs) (key_fault UndeclaredBlock place) _ f
 
-  pub not_spare : all_spare ts bs.lengths ≡ false → ask_keys x d place h l (pieces bs) ks ≡ Err (key_fault UndeclaredBlock place)
-  not_spare f = is_asked ∙ unmet (undeclared_empty ts (pieces bs)) (key_fault UndeclaredBlock place) _ (spare_so ∙ f)
+  module _ (spare : undeclared_empty ts bs ≡ true) where
+    goes_in : ask_keys x d place h l all ks ≡ (branch_ends x d h ts bs ks >>= (λ ends. or_fault (join ends) (key_fault EndsDiffer place)))
+    goes_in = is_asked ∙ met (undeclared_empty ts bs) (key_fault UndeclaredBlock place) _ spare
 
-  module _ (spare : all_spare ts bs.lengths ≡ true) where
-    goes_in : ask_keys x d place h l (pieces bs) ks ≡ (branch_ends x d h ts (pieces bs) ks >>= (λ ends. or_fault (join ends) (key_fault EndsDiffer place)))
-    goes_in = is_asked ∙ met (undeclared_empty ts (pieces bs)) (key_fault UndeclaredBlock place) _ (spare_so ∙ spare)
-
-    pub branch_fails : (f : Fault) → branch_ends x d h ts (pieces bs) ks ≡ Err f → ask_keys x d place h l (pieces bs) ks ≡ Err f
+    pub branch_fails : (f : Fault) → branch_ends x d h ts bs ks ≡ Err f → ask_keys x d place h l all ks ≡ Err f
     branch_fails f r = goes_in ∙ carried _ r
 
-    pub branches_end : (ends : List Keys) → branch_ends x d h ts (pieces bs) ks ≡ Ok ends → ask_keys x d place h l (pieces bs) ks ≡ or_fault (join ends) (key_fault EndsDiffer place)
+    pub branches_end : (ends : List Keys) → branch_ends x d h ts bs ks ≡ Ok ends → ask_keys x d place h l all ks ≡ or_fault (join ends) (key_fault EndsDiffer place)
     branches_end ends r = goes_in ∙ follows (λ ends. or_fault (join ends) (key_fault EndsDiffer place)) r
 
 -- Branches

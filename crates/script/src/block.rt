@@ -12,7 +12,7 @@ pub struct Block<'a> {
 
 impl<'a> Block<'a> {
     ghost use Rattle.rules.specs.Script.{no_block};
-    ghost use Rattle.script.specs.Pieces.{front, past, piece};
+    ghost use Rattle.script.specs.Pieces.{Cuts, piece};
 
     // The block without bytes.
     pub fn empty() -> Block<'a>
@@ -36,22 +36,19 @@ impl<'a> Block<'a> {
         }
     }
 
-    // The first bytes, as many as the number, and what follows them.
-    pub(crate) fn cut(self, len: u16) -> (Block<'a>, Block<'a>)
-        requires { len ≤ length (piece self).bytes }
-        ensures front { piece result.0 ≡ front len (piece self.entry) }
-        ensures past { piece result.1 ≡ past len (piece self.entry) }
+    // The first bytes, as many as the number, and what follows them; None where there are fewer.
+    pub(crate) fn cut(self, len: u16) -> Option<(Block<'a>, Block<'a>)>
+        ensures { Cuts len (piece self.entry) result }
     {
-        let (bytes, rest) = self.bytes.split_at(len as usize);
-        (
-            Block {
-                bytes,
-                place: self.place,
-            },
-            Block {
-                bytes: rest,
-                place: self.place + len as usize,
-            },
-        )
+        let (bytes, rest) = self.bytes.split_at_checked(len as usize)?;
+        let front = Block {
+            bytes,
+            place: self.place,
+        };
+        let rest = Block {
+            bytes: rest,
+            place: self.place + len as usize,
+        };
+        Some((front, rest))
     }
 }

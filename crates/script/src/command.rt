@@ -7,7 +7,7 @@ ghost use Rattle.script.specs.Pieces.{piece};
 
 use crate::answers::ByAnswer;
 use crate::block::Block;
-use crate::blocks::{Blocks, total};
+use crate::blocks::Blocks;
 use crate::part::HANDLES;
 use faults::{Fault, Layer, LayoutCause};
 
@@ -70,7 +70,7 @@ pub(crate) fn word(low: u8, high: u8) -> u16
     u16::from_le_bytes([low, high])
 }
 
-// An ASK whose blocks begin where the tail does.
+// An ASK whose blocks are cut, one after the other, from the front of the tail.
 fn read_ask<'a>(
     handle: u8,
     letter: u8,
@@ -79,30 +79,29 @@ fn read_ask<'a>(
 ) -> Option<(Command<'a>, Block<'a>)>
     ensures { Reads result (ask_at handle letter lengths (piece tail.entry)) }
 {
-    let len = total(&lengths);
-    if len > tail.bytes.len() {
-        return None;
-    }
-    let (whole, rest) = tail.cut(len as u16);
-    let blocks = Blocks { lengths, whole };
-    Some((
-        Command::Ask {
-            handle,
-            letter,
-            blocks,
-        },
-        rest,
-    ))
+    let [zero, one, two, three] = lengths;
+    let (zero, tail) = tail.cut(zero)?;
+    let (one, tail) = tail.cut(one)?;
+    let (two, tail) = tail.cut(two)?;
+    let (three, rest) = tail.cut(three)?;
+    let blocks = Blocks {
+        zero,
+        one,
+        two,
+        three,
+    };
+    let ask = Command::Ask {
+        handle,
+        letter,
+        blocks,
+    };
+    Some((ask, rest))
 }
 
-// Measured and cut as an ASK; what is made of it differs.
 fn read_repeat<'a>(register: u8, len: u16, tail: Block<'a>) -> Option<(Command<'a>, Block<'a>)>
     ensures { Reads result (repeat_at register len (piece tail.entry)) }
 {
-    if len as usize > tail.bytes.len() {
-        return None;
-    }
-    let (block, rest) = tail.cut(len);
+    let (block, rest) = tail.cut(len)?;
     Some((Command::Repeat { register, block }, rest))
 }
 

@@ -1,9 +1,12 @@
 // Where the answers to a letter lead, and what values have in common.
-ghost use Rattle.std.specs.Prelude.{◌≡◌, is_some};
+ghost use Rattle.std.specs.Prelude.{◌≡◌, map, is_some};
 ghost use Rattle.std.specs.List.{list_any};
-ghost use Rattle.script.specs.Ends.{all_spare, common_by};
+ghost use Rattle.rules.specs.Check.{undeclared_empty};
+ghost use Rattle.script.specs.Ends.{common_by};
+ghost use Rattle.script.specs.Pieces.{piece};
 
 use crate::answers::ByAnswer;
+use crate::block::Block;
 
 // By answer, the station to which it leads, if it is declared.
 pub type Successors = ByAnswer<Option<u8>>;
@@ -15,12 +18,12 @@ pub(crate) fn some_declared(to: &Successors) -> bool
 }
 
 // The block of an answer that is not declared is empty.
-pub(crate) fn undeclared_empty(to: &Successors, lengths: &ByAnswer<u16>) -> bool
-    ensures { result ≡ all_spare to.now lengths.now }
+pub(crate) fn undeclared_empty(to: &Successors, blocks: &ByAnswer<Block>) -> bool
+    ensures { result ≡ undeclared_empty to.now (map piece blocks.now) }
 {
     to.iter()
-        .zip(lengths)
-        .all(|(to, len)| to.is_some() || *len == 0)
+        .zip(blocks)
+        .all(|(to, block)| to.is_some() || block.bytes.is_empty())
 }
 
 // The one value that all of them are, if there are any.

@@ -1,5 +1,5 @@
 // The check of keys: a block checks its commands, and a command the blocks that it holds.
-ghost use Rattle.std.specs.Prelude.{◌≡◌};
+ghost use Rattle.std.specs.Prelude.{◌≡◌, map};
 ghost use Rattle.rules.specs.Check.{check_body};
 ghost use Rattle.script.specs.Commands.{said};
 ghost use Rattle.script.specs.Levels.{scope_at};
@@ -7,7 +7,7 @@ ghost use Rattle.script.specs.Scopes.{scope_of};
 ghost use Rattle.script.specs.Pieces.{piece, pieces};
 ghost use Rattle.script.specs.Walk.{GivesEnds, Leaves, allowed_at, ask_keys, block_keys, branch_ends, command_after, repeat_keys, send_keys};
 
-use crate::answers::ANSWERS;
+use crate::answers::{ANSWERS, ByAnswer};
 use crate::block::Block;
 use crate::blocks::Blocks;
 use crate::command::Command;
@@ -54,14 +54,13 @@ impl Level<'_> {
         &self,
         handle: u8,
         to: &Successors,
-        blocks: Blocks,
+        blocks: &ByAnswer<Block>,
         keys: &Keys,
     ) -> Result<ArrayVec<Keys, ANSWERS>, Fault>
-        ensures { GivesEnds result (branch_ends (scope_at self.now) self.now.depth handle to.now (pieces blocks.entry) keys.now) }
+        ensures { GivesEnds result (branch_ends (scope_at self.now) self.now.depth handle to.now (map piece blocks.now) keys.now) }
     {
         let mut ends = ArrayVec::new();
-        let branches = blocks.by_answer();
-        for (to, block) in to.iter().zip(&branches) {
+        for (to, block) in to.iter().zip(blocks) {
             if let Some(station) = to {
                 let mut end = *keys;
                 set_key(&mut end, handle, *station);
@@ -79,16 +78,17 @@ impl Level<'_> {
         place: u16,
         handle: u8,
         letter: u8,
-        blocks: Blocks,
+        blocks: &Blocks,
         keys: &mut Keys,
     ) -> Result<(), Fault>
-        ensures { Leaves result keys.new (ask_keys (scope_at self.now) self.now.depth place handle letter (pieces blocks.entry) keys.old) }
+        ensures { Leaves result keys.new (ask_keys (scope_at self.now) self.now.depth place handle letter (pieces blocks.now) keys.old) }
     {
         let to = self.scope.allowed(place, handle, letter, keys)?;
-        if !undeclared_empty(&to, &blocks.lengths) {
+        let blocks = blocks.by_answer();
+        if !undeclared_empty(&to, &blocks) {
             return Err(KeyCause::UndeclaredBlock.at(place));
         }
-        let ends = self.check_branches(handle, &to, blocks, keys)?;
+        let ends = self.check_branches(handle, &to, &blocks, keys)?;
         *keys = common(&ends).ok_or(KeyCause::EndsDiffer.at(place))?;
         Ok(())
     }
@@ -123,7 +123,7 @@ impl Level<'_> {
                 blocks,
             } => {
                 let inner = self.deeper(place)?;
-                inner.check_ask(place, handle, letter, blocks, keys)
+                inner.check_ask(place, handle, letter, &blocks, keys)
             }
             Command::Repeat { block, .. } => {
                 let inner = self.deeper(place)?;

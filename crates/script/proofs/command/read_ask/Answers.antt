@@ -1,27 +1,39 @@
-use Rattle.std.proofs.Common.{◌≡◌, ℕ, ◌<◌, ◌≤◌, length, sym, ap, ◌∙◌, arith}
-use Rattle.std.proofs.lemmas.List.{length-take-le}
-use Rattle.rules.specs.Lists.{total}
-use Rattle.rules.specs.Script.{Block, ask, command, cut}
-use Rattle.script.specs.Pieces.{front, past, piece}
-use Rattle.script.proofs.Cutting.{sum_total, ask_cut, ask_broken}
+use Rattle.std.proofs.Common.{rules}
+use Rattle.script.specs.Pieces.{piece}
+use Rattle.script.proofs.Cutting.{four_of, none_cut, one_cut, short_behind, short_here, ask_cut, too_short}
 use Rattle.script.proofs.command.read_ask.Goals as goal
 
-pub returns-then-len-tail : goal.returns-then-len-tail
-returns-then-len-tail c =
-    let over : length c.args.tail.bytes.now < total c.args.lengths = omega (arith, sum_total c.args.lengths, c.total-len.ensures) in
-    ask_broken _ c.args.handle c.args.letter c.args.lengths over
+pub returns-in_err-zero : goal.returns-in_err-zero
+returns-in_err-zero c =
+    too_short _ _ _ _ (four_of c.args.lengths (search rules)) (piece c.args.tail) _ c.from_residual.ensures
+    (short_here _ _ _ c.in_err-zero.ensures)
 
-pub invariant_of-blocks : goal.invariant_of-blocks
-invariant_of-blocks c =
-    let all : total c.args.lengths ≡ c.total-len.result = sym (c.total-len.ensures ∙ sum_total c.args.lengths) in
-    let len : length c.cut.result.0.bytes.now ≡ c.total-len.result = ap (λ (b : Block). length b.bytes) c.cut.ensures.front ∙ length-take-le c.total-len.result c.args.tail.bytes.now c.if-len-tail.false in
-    record { exact = all ∙ sym len }
+pub returns-in_err-one : goal.returns-in_err-one
+returns-in_err-one c =
+    too_short _ _ _ _ (four_of c.args.lengths (search rules)) (piece c.args.tail) _ c.from_residual-in_err-one.ensures
+    (short_behind _ _ (piece c.args.tail) (piece c.in_ok-zero.zero) (piece c.in_ok-zero.tail) c.in_ok-zero.ensures
+    (short_here _ _ _ c.in_err-one.ensures))
+
+pub returns-in_err-two : goal.returns-in_err-two
+returns-in_err-two c =
+    too_short _ _ _ _ (four_of c.args.lengths (search rules)) (piece c.args.tail) _ c.from_residual-in_err-two.ensures
+    (short_behind _ _ (piece c.args.tail) (piece c.in_ok-zero.zero) (piece c.in_ok-zero.tail) c.in_ok-zero.ensures
+    (short_behind _ _ _ (piece c.in_ok-one.one) (piece c.in_ok-one.tail) c.in_ok-one.ensures
+    (short_here _ _ _ c.in_err-two.ensures)))
+
+pub returns-in_err-three : goal.returns-in_err-three
+returns-in_err-three c =
+    too_short _ _ _ _ (four_of c.args.lengths (search rules)) (piece c.args.tail) _ c.from_residual-in_err-three.ensures
+    (short_behind _ _ (piece c.args.tail) (piece c.in_ok-zero.zero) (piece c.in_ok-zero.tail) c.in_ok-zero.ensures
+    (short_behind _ _ _ (piece c.in_ok-one.one) (piece c.in_ok-one.tail) c.in_ok-one.ensures
+    (short_behind _ _ _ (piece c.in_ok-two.two) (piece c.in_ok-two.tail) c.in_ok-two.ensures
+    (short_here _ _ _ c.in_err-three.ensures))))
 
 pub returns : goal.returns
 returns c =
-    let all : c.total-len.result ≡ total c.args.lengths = c.total-len.ensures ∙ sum_total c.args.lengths in
-    let le : total c.args.lengths ≤ length c.args.tail.bytes.now = omega arith in
-    let whole : front (total c.args.lengths) (piece c.args.tail) ≡ piece c.cut.result.0 = ap (λ (n : ℕ). front n (piece c.args.tail)) (sym all) ∙ sym c.cut.ensures.front in
-    let rest : past (total c.args.lengths) (piece c.args.tail) ≡ piece c.cut.result.1 = ap (λ (n : ℕ). past n (piece c.args.tail)) (sym all) ∙ sym c.cut.ensures.past in
-    ask_cut (piece c.args.tail) c.args.handle c.args.letter c.args.lengths le
-    ∙ (λ i. command (ask c.args.handle c.args.letter (cut (whole i).place (whole i).bytes c.args.lengths)) (rest i))
+    ask_cut _ _ _ _ (four_of c.args.lengths (search rules)) (piece c.args.tail)
+    (one_cut _ _ _ (piece c.in_ok-zero.zero) (piece c.in_ok-zero.tail) c.in_ok-zero.ensures
+    (one_cut _ _ _ (piece c.in_ok-one.one) (piece c.in_ok-one.tail) c.in_ok-one.ensures
+    (one_cut _ _ _ (piece c.in_ok-two.two) (piece c.in_ok-two.tail) c.in_ok-two.ensures
+    (one_cut _ _ _ (piece c.in_ok-three.three) (piece c.in_ok-three.rest) c.in_ok-three.ensures
+    (none_cut _)))))

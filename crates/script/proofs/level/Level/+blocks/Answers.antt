@@ -1,16 +1,16 @@
-use Rattle.std.proofs.Common.{◌≡◌, ℕ, suc, eqb, List, length, Option, Err, Result, refl, sym, ap, ◌∙◌, subst, inl, inr, arith, le-ltb, rules, None, ◌+◌, [], ◌∷◌, ◌++◌, length-append}
+use Rattle.std.proofs.Common.{◌≡◌, ℕ, suc, eqb, List, length, Option, Err, Result, refl, sym, ap, ◌∙◌, subst, inl, inr, arith, le-ltb, rules, None, ◌+◌, [], ◌∷◌, ◌++◌, length-append, map}
 use Rattle.std.proofs.lemmas.Slice.Zip.{zip_turn}
 use Rattle.std.specs.Option.{ok_or}
 use lib.Pointwise.{pointwise}
 use Rattle.faults.specs.declared.causes.KeyCause.TheVariants.{EndsDiffer}
 use Rattle.faults.specs.Numbers.{key_fault}
 use Rattle.protocol.proofs.Tests.{is_less}
+use Rattle.rules.specs.Script as rules
 use Rattle.rules.specs.Script.{Keys, Scope, first, in_range}
 use Rattle.rules.specs.Check.{join, or_fault}
 use Rattle.rules.proofs.Reading.{reads_within}
 use Rattle.faults.specs.declared.fault.Fault.{Fault}
 use Rattle.script.specs.declared.block.Block.{Block}
-use Rattle.script.specs.declared.blocks.Blocks.{Blocks}
 use Rattle.script.specs.declared.command.Command.{Command}
 use Rattle.script.specs.declared.command.Command.TheVariants.{Set, Dec, Cue, Fail}
 use Rattle.script.specs.Commands.{Gives, said}
@@ -31,18 +31,18 @@ use Rattle.script.proofs.level.Level.+blocks.Goals as goal
 
 pub check_ask-returns-then-not-undeclared_empty : goal.check_ask-returns-then-not-undeclared_empty
 check_ask-returns-then-not-undeclared_empty t c =
-    not_spare (scope_at c.args.self.now) c.args.self.now.depth c.args.place c.args.handle c.args.letter c.args.keys.now c.in_ok-to.to c.args.blocks c.in_ok-to.ensures (sym c.undeclared_empty.ensures ∙ c.if-not-undeclared_empty.true)
+    not_spare (scope_at c.args.self.now) c.args.self.now.depth c.args.place c.args.handle c.args.letter c.args.keys.now c.in_ok-to.to _ _ c.by_answer-blocks.ensures c.in_ok-to.ensures (sym c.undeclared_empty.ensures ∙ c.if-not-undeclared_empty.true)
     ∙ ap Err (sym c.at.ensures)
 
 pub check_ask-returns-in_err-ends : goal.check_ask-returns-in_err-ends
 check_ask-returns-in_err-ends t c =
     refused _ _ _ _ c.from_residual-in_err-ends.ensures.1
-    (branch_fails (scope_at c.args.self.now) c.args.self.now.depth c.args.place c.args.handle c.args.letter c.args.keys.now c.in_ok-to.to c.args.blocks c.in_ok-to.ensures (sym c.undeclared_empty.ensures ∙ c.if-not-undeclared_empty.false) _ c.in_err-ends.ensures)
+    (branch_fails (scope_at c.args.self.now) c.args.self.now.depth c.args.place c.args.handle c.args.letter c.args.keys.now c.in_ok-to.to _ _ c.by_answer-blocks.ensures c.in_ok-to.ensures (sym c.undeclared_empty.ensures ∙ c.if-not-undeclared_empty.false) _ c.in_err-ends.ensures)
 
 -- what the blocks end with
-joined : (x : Scope) (d place h l : ℕ) (ks : Keys) (bs : Blocks) (ends : List Keys) (o : Option Keys) (e : Fault) (r : Result Keys Fault) →
-    ask_keys x d place h l (pieces bs) ks ≡ or_fault (join ends) (key_fault EndsDiffer place) → o ≡ common_by (pointwise eqb) ends → e ≡ key_fault EndsDiffer place → r ≡ ok_or o e →
-    ask_keys x d place h l (pieces bs) ks ≡ r
+joined : (x : Scope) (d place h l : ℕ) (ks : Keys) (bs : List rules.Block) (ends : List Keys) (o : Option Keys) (e : Fault) (r : Result Keys Fault) →
+    ask_keys x d place h l bs ks ≡ or_fault (join ends) (key_fault EndsDiffer place) → o ≡ common_by (pointwise eqb) ends → e ≡ key_fault EndsDiffer place → r ≡ ok_or o e →
+    ask_keys x d place h l bs ks ≡ r
 joined x d place h l ks bs ends o e r asked common at is =
     asked ∙ or_faulty (join ends) (key_fault EndsDiffer place)
     ∙ sym (is ∙ (λ i. ok_or ((common ∙ sym (join_common (pointwise eqb) same_turned ends)) i) (at i)))
@@ -52,17 +52,17 @@ check_ask-returns-in_err-keys t c =
     let ends : List Keys = c.in_ok-ends.ends.items in
     let x = scope_at c.args.self.now in
     let d = c.args.self.now.depth in
-    let asked = branches_end x d c.args.place c.args.handle c.args.letter c.args.keys.now c.in_ok-to.to c.args.blocks c.in_ok-to.ensures (sym c.undeclared_empty.ensures ∙ c.if-not-undeclared_empty.false) _ c.in_ok-ends.ensures in
+    let asked = branches_end x d c.args.place c.args.handle c.args.letter c.args.keys.now c.in_ok-to.to _ _ c.by_answer-blocks.ensures c.in_ok-to.ensures (sym c.undeclared_empty.ensures ∙ c.if-not-undeclared_empty.false) _ c.in_ok-ends.ensures in
     refused _ _ _ _ c.from_residual-in_err-keys.ensures.1
-    (joined x d c.args.place c.args.handle c.args.letter c.args.keys.now c.args.blocks ends _ _ _ asked (c.common.ensures ∙ ap (common_by (pointwise eqb)) c.deref.ensures.0) c.at-2.ensures c.in_err-keys.ensures.value)
+    (joined x d c.args.place c.args.handle c.args.letter c.args.keys.now _ ends _ _ _ asked (c.common.ensures ∙ ap (common_by (pointwise eqb)) c.deref.ensures.0) c.at-2.ensures c.in_err-keys.ensures.value)
 
 pub check_ask-returns : goal.check_ask-returns
 check_ask-returns t c =
     let ends : List Keys = c.in_ok-ends.ends.items in
     let x = scope_at c.args.self.now in
     let d = c.args.self.now.depth in
-    let asked = branches_end x d c.args.place c.args.handle c.args.letter c.args.keys.now c.in_ok-to.to c.args.blocks c.in_ok-to.ensures (sym c.undeclared_empty.ensures ∙ c.if-not-undeclared_empty.false) _ c.in_ok-ends.ensures in
-    joined x d c.args.place c.args.handle c.args.letter c.args.keys.now c.args.blocks ends _ _ _ asked (c.common.ensures ∙ ap (common_by (pointwise eqb)) c.deref.ensures.0) c.at-2.ensures c.in_ok-keys.ensures.value
+    let asked = branches_end x d c.args.place c.args.handle c.args.letter c.args.keys.now c.in_ok-to.to _ _ c.by_answer-blocks.ensures c.in_ok-to.ensures (sym c.undeclared_empty.ensures ∙ c.if-not-undeclared_empty.false) _ c.in_ok-ends.ensures in
+    joined x d c.args.place c.args.handle c.args.letter c.args.keys.now _ ends _ _ _ asked (c.common.ensures ∙ ap (common_by (pointwise eqb)) c.deref.ensures.0) c.at-2.ensures c.in_ok-keys.ensures.value
 
 -- A block
 
@@ -154,8 +154,8 @@ check_command-returns-in-Some t c =
 
 pub check_branches-loop-to-preserved : goal.check_branches-loop-to-preserved
 check_branches-loop-to-preserved t c =
-    let here = zip_turn c.args.to.now c.by_answer-branches.result c.loop-to.yielded _ c.loop-to.to-iterator c.next.new.self c.next.result (search rules) (search rules) c.loop-to.yielded_by (c.in-Some.to, c.in-Some.block) c.in-Some.is c.next.ensures.steps in
+    let here = zip_turn c.args.to.now c.args.blocks.now c.loop-to.yielded _ c.loop-to.to-iterator c.next.new.self c.next.result (search rules) (search rules) c.loop-to.yielded_by (c.in-Some.to, c.in-Some.block) c.in-Some.is c.next.ensures.steps in
     let one_more : length (c.loop-to.yielded ++ ((c.in-Some.to, c.in-Some.block) ∷ [])) ≡ length c.loop-to.yielded + 1 = length-append c.loop-to.yielded ((c.in-Some.to, c.in-Some.block) ∷ []) in (
-      c.loop-to.invariant.0 ∙ undeclared (block_keys (scope_at c.args.self.now) c.args.self.now.depth) c.args.keys.now c.args.handle c.loop-to.ends.items c.args.to.now (pieces c.args.blocks) (length c.loop-to.yielded) _ here.0 (sym (here.2 None) ∙ c.in_default.is) one_more,
+      c.loop-to.invariant.0 ∙ undeclared (block_keys (scope_at c.args.self.now) c.args.self.now.depth) c.args.keys.now c.args.handle c.loop-to.ends.items c.args.to.now (map piece c.args.blocks.now) (length c.loop-to.yielded) _ here.0 (sym (here.2 None) ∙ c.in_default.is) one_more,
       omega (arith, one_more, c.loop-to.invariant.1),
     )

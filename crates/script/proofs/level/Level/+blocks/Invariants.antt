@@ -1,6 +1,6 @@
-use Rattle.std.proofs.Common.{◌≡◌, ◌+◌, ◌-◌, ◌*◌, ◌≤◌, length, drop}
+use Rattle.std.proofs.Common.{◌≡◌, ◌+◌, ◌-◌, ◌*◌, ◌≤◌, map, length, drop}
 use Rattle.script.specs.Levels.{scope_at}
-use Rattle.script.specs.Pieces.{piece, pieces}
+use Rattle.script.specs.Pieces.{piece}
 use Rattle.script.specs.Walk.{block_keys, branch_ends}
 use Rattle.script.proofs.Walking.{behind}
 use Rattle.script.proofs.level.Level.+blocks.Given as goal
@@ -32,6 +32,6 @@ decreases-check_block-loop-first l = length l.rest.bytes.now
 abbrev pub invariant-check_branches-loop-to : goal.invariant-check_branches-loop-to
 invariant-check_branches-loop-to l =
     let n = length l.yielded in
-    (branch_ends (scope_at l.self) l.self.depth l.handle l.fn.to (pieces l.fn.blocks) l.keys
-    ≡ behind (block_keys (scope_at l.self) l.self.depth) l.keys l.handle l.ends.items (drop n l.fn.to) (drop n (pieces l.fn.blocks)))
+    (branch_ends (scope_at l.self) l.self.depth l.handle l.fn.to (map piece l.blocks) l.keys
+    ≡ behind (block_keys (scope_at l.self) l.self.depth) l.keys l.handle l.ends.items (drop n l.fn.to) (drop n (map piece l.blocks)))
     × (length l.ends.items ≤ n)
