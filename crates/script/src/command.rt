@@ -46,7 +46,7 @@ pub enum Command<'a> {
     },
     Run {
         part: u8,
-        bindings: &'a [u8; HANDLES],
+        bindings: [u8; HANDLES],
     },
     Set {
         register: u8,
@@ -106,7 +106,8 @@ fn read_repeat<'a>(register: u8, len: u16, tail: Block<'a>) -> Option<(Command<'
 }
 
 // The command of that first byte whose operands stand at the front of the block, and the rest; None where it is not whole. The byte is
-// tested before the length, which cannot be foreseen where a block is short. Operands are patterns, by a rule of the project.
+// tested before the length, which cannot be foreseen where a block is short. The operands of each are one pattern, so that none is named
+// before all of them are there.
 #[inline(always)]
 fn read_operands<'a>(opcode: u8, operands: Block<'a>) -> Option<(Command<'a>, Block<'a>)>
     ensures { Reads result (read_operands (code_of opcode) operands.entry.place operands.entry.bytes.now) }
@@ -142,13 +143,12 @@ fn read_operands<'a>(opcode: u8, operands: Block<'a>) -> Option<(Command<'a>, Bl
             read_repeat(*register, word(*w0, *w1), operands.behind(tail))
         }
         RUN => {
-            let [part, tail @ ..] = operands.bytes else {
+            let [part, b0, b1, b2, b3, b4, b5, b6, b7, rest @ ..] = operands.bytes else {
                 return None;
             };
-            let (bindings, rest) = tail.split_first_chunk::<HANDLES>()?;
             let run = Command::Run {
                 part: *part,
-                bindings,
+                bindings: [*b0, *b1, *b2, *b3, *b4, *b5, *b6, *b7],
             };
             Some((run, operands.behind(rest)))
         }
