@@ -106,7 +106,8 @@ fn read_repeat<'a>(register: u8, len: u16, tail: Block<'a>) -> Option<(Command<'
 }
 
 // The command of that first byte whose operands stand at the front of the block, and the rest; None where it is not whole. The byte is
-// tested before the length, which cannot be foreseen where a block is short. Operands are patterns, by a rule of the project.
+// tested before the length, which cannot be foreseen where a block is short. The operands of each are one pattern, so that none is named
+// before all of them are there; a RUN's bindings are taken as they lie, not copied one by one.
 #[inline(always)]
 fn read_operands<'a>(opcode: u8, operands: Block<'a>) -> Option<(Command<'a>, Block<'a>)>
     ensures { Reads result (read_operands (code_of opcode) operands.entry.place operands.entry.bytes.now) }
