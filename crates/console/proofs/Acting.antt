@@ -1,5 +1,5 @@
 -- The entries of a go or a strike stand in its log.
-use Rattle.std.proofs.Common.{◌≡◌, ℕ, ◌+◌, ◌≤◌, List, ◌++◌, length, take, drop, Ok, Err, Result, ap, ◌∙◌, arith, length-append}
+use Rattle.std.proofs.Common.{◌≡◌, ℕ, ◌+◌, ◌≤◌, List, ◌++◌, length, take, drop, Ok, Err, OnErr, Result, ap, ◌∙◌, arith, length-append}
 use Rattle.std.proofs.lemmas.List.{take-append-le}
 use Rattle.faults.specs.declared.fault.Fault.{Fault}
 use Rattle.protocol.specs.declared.edges.Entry.{Entry}
@@ -24,3 +24,12 @@ module _ (p : Player) (g : Ports) (log : Log) (p' : Player) (g' : Ports) (log' b
   pub struck_in : (r : Result ℕ Fault) → Strikes p g log r p' g' log' → take (letters_in (Struck r)) (log' ++ behind) ≡ take (letters_in (Struck r)) log'
   struck_in (Ok k) d = take-append-le k log' behind (few k d.1.0 log log' d.1.2 d.1.3)
   struck_in (Err e) d = take-append-le 0 log' behind (omega arith)
+
+  -- a refused call leaves the log, and with it what is behind
+  pub unwritten_go : (n : ℕ) (r : Result Report Fault) (own : ℕ) → Goes p n g log r own p' g' log' → OnErr r (log' ++ behind ≡ log ++ behind)
+  unwritten_go n (Ok r) own d = tt
+  unwritten_go n (Err e) own d = ap (λ l. l ++ behind) d.3
+
+  pub unwritten_strike : (r : Result ℕ Fault) → Strikes p g log r p' g' log' → OnErr r (log' ++ behind ≡ log ++ behind)
+  unwritten_strike (Ok k) d = tt
+  unwritten_strike (Err e) d = ap (λ l. l ++ behind) d.3

@@ -1,7 +1,7 @@
 // What the console holds between two lines, and how a line changes it.
 ghost use Rattle.std.specs.Prelude.{◌≡◌, map, IfOk, OnErr, OnOk};
 ghost use Rattle.book.specs.Reading.{read_book};
-ghost use Rattle.console.specs.Acts.{LeavesRig, LeavesRigFor, entries_for};
+ghost use Rattle.console.specs.Acts.{LeavesLogFor, LeavesRig, LeavesRigFor, entries_for};
 ghost use Rattle.console.specs.Answers.{count_kinds, count_parts, rig_answer};
 ghost use Rattle.console.specs.Held.{book_after, held_of, nothing_held, replies_after, replies_held, rig_after, script_after, script_read};
 ghost use Rattle.console.specs.Plans.{mounted, planned};
@@ -60,6 +60,7 @@ impl<'a> Desk<'a> {
         ensures answer { result ≡ count_kinds (read_book bytes.now) }
         ensures held { held_of self.new ≡ book_after (held_of self.old) bytes.now (read_book bytes.now) }
         ensures rig { self.new.rig ≡ self.old.rig }
+        ensures log { self.new.log ≡ self.old.log }
         ensures refused { OnErr result (self.new ≡ self.old) }
     {
         self.book.check(bytes)?;
@@ -72,6 +73,7 @@ impl<'a> Desk<'a> {
         ensures answer { result ≡ count_parts (script_read (held_of self.old) bytes.now) }
         ensures held { held_of self.new ≡ script_after (held_of self.old) (script_read (held_of self.old) bytes.now) }
         ensures rig { self.new.rig ≡ self.old.rig }
+        ensures log { self.new.log ≡ self.old.log }
         ensures refused { OnErr result (self.new ≡ self.old) }
     {
         self.script.check(&self.book, bytes)?;
@@ -88,6 +90,7 @@ impl<'a> Desk<'a> {
         ensures answer { IfOk result (λ answer. answer ≡ rig_answer number (mounted (map planned plans.now))) }
         ensures held { OnOk result (held_of self.new ≡ rig_after (held_of self.old) (mounted (map planned plans.now))) }
         ensures rig { IfOk result (λ answer. LeavesRig answer self.old.rig self.new.rig) }
+        ensures log { OnOk result (self.new.log ≡ self.old.log) }
         ensures replies { OnOk result (replies_held self.new ≡ replies_after (replies_held self.old) (map planned plans.now) (mounted (map planned plans.now))) }
         ensures lost { OnErr result (self.new ≡ self.old) }
     {
@@ -114,6 +117,7 @@ impl<'a> Desk<'a> {
     ) -> Result<Option<Answer>, AllocError>
         ensures answers { IfOk result (λ answer. Answers number (held_of self.old) (view line.now) answer (entries_for self.new answer) (held_of self.new)) }
         ensures rig { IfOk result (λ answer. LeavesRigFor answer self.old.rig self.new.rig) }
+        ensures log { IfOk result (λ answer. LeavesLogFor answer self.old.log self.new.log) }
         ensures replies { OnOk result (Replies (view line.now) (replies_held self.old) (replies_held self.new)) }
         ensures lost { OnErr result (self.new ≡ self.old) }
     {

@@ -2,7 +2,7 @@
 ghost use Rattle.std.specs.Prelude.{◌≡◌, ◌≤◌, take, OnErr};
 ghost use Rattle.player.specs.View.{view};
 ghost use Rattle.console.specs.declared.answer.Answer.TheVariants.{Went, Struck};
-ghost use Rattle.console.specs.Acts.{Acts, BeginsOn, GoesIn, GoesOn, LeavesRig, StrikesIn, StrikesOn, entries_of, letters_in, room_of};
+ghost use Rattle.console.specs.Acts.{Acts, BeginsOn, GoesIn, GoesOn, LeavesLog, LeavesRig, StrikesIn, StrikesOn, entries_of, letters_in, room_of};
 ghost use Rattle.console.specs.Answers.{ports_answer};
 ghost use Rattle.console.specs.Held.{held_of};
 
@@ -46,6 +46,7 @@ fn go_in<R: Rig>(
     requires { room ≤ 4096 }
     ensures goes { GoesIn (view player.old) steps room (R.Rig.ports rig.old) result (take (letters_in (Went result)) log.new) (view player.new) (R.Rig.ports rig.new) }
     ensures refused { OnErr result (rig.new ≡ rig.old) }
+    ensures unwritten { OnErr result (log.new ≡ log.old) }
 {
     player.go(steps, rig, &mut log[..room])
 }
@@ -60,6 +61,7 @@ fn strike_in<R: Rig>(
     requires { room ≤ 4096 }
     ensures strikes { StrikesIn (view player.old) room (R.Rig.ports rig.old) result (take (letters_in (Struck result)) log.new) (view player.new) (R.Rig.ports rig.new) }
     ensures refused { OnErr result (rig.new ≡ rig.old) }
+    ensures unwritten { OnErr result (log.new ≡ log.old) }
 {
     player.strike(rig, &mut log[..room])
 }
@@ -69,6 +71,7 @@ impl<'a> Desk<'a> {
     pub fn act(&mut self, number: u64, command: StageCommand) -> Answer
         ensures acts { Acts number (held_of self.old) command result (entries_of self.new result) (held_of self.new) }
         ensures rig { LeavesRig result self.old.rig self.new.rig }
+        ensures log { LeavesLog result self.old.log self.new.log }
     {
         match command {
             StageCommand::Player => {
@@ -98,6 +101,7 @@ impl<'a> Desk<'a> {
     fn begin(&mut self, number: u64) -> Answer
         ensures begins { BeginsOn number (held_of self.old) (held_of self.old).rig result (entries_of self.new result) (held_of self.new) }
         ensures rig { LeavesRig result self.old.rig self.new.rig }
+        ensures log { LeavesLog result self.old.log self.new.log }
     {
         match &self.rig {
             Some(rig) => Answer::Begun(self.player.begin(&self.script, rig)),
@@ -109,6 +113,7 @@ impl<'a> Desk<'a> {
         requires { room ≤ 4096 }
         ensures goes { GoesOn number (held_of self.old) steps room (held_of self.old).rig result (entries_of self.new result) (held_of self.new) }
         ensures rig { LeavesRig result self.old.rig self.new.rig }
+        ensures log { LeavesLog result self.old.log self.new.log }
     {
         match &mut self.rig {
             Some(rig) => Answer::Went(go_in(&mut self.player, rig, &mut self.log, steps, room)),
@@ -120,6 +125,7 @@ impl<'a> Desk<'a> {
         requires { room ≤ 4096 }
         ensures strikes { StrikesOn number (held_of self.old) room (held_of self.old).rig result (entries_of self.new result) (held_of self.new) }
         ensures rig { LeavesRig result self.old.rig self.new.rig }
+        ensures log { LeavesLog result self.old.log self.new.log }
     {
         match &mut self.rig {
             Some(rig) => Answer::Struck(strike_in(&mut self.player, rig, &mut self.log, room)),
