@@ -1,12 +1,12 @@
 -- A letter to a port of a rig that is built of devices.
-use Rattle.std.proofs.Common.{◌≡◌, ℕ, zero, suc, ◌<◌, ◌≤◌, List, ◌∷◌, length, take, sym, refl, ap, subst, arith, le-ltb, length-take}
+use Rattle.std.proofs.Common.{◌≡◌, ℕ, zero, suc, ◌<◌, ◌≤◌, List, ◌∷◌, length, take, sym, refl, subst, arith, le-ltb}
 use Rattle.std.specs.Bool.{MatchBool}
 use Rattle.protocol.proofs.Tests.{is_less}
 use Rattle.device.specs.declared.rigs.before.Before.{Before}
 use Rattle.device.specs.Asked.{Refuses, SingleAsks, BeforeAsks}
 use Rattle.device.specs.Meaning.{Meaning, Hears}
 use Rattle.device.specs.Ports.{Ports, RigHears, here, there, missing}
-use Rattle.device.specs.Built.{row_ports, before_ports, before_some, row_few}
+use Rattle.device.specs.Built.{row_ports, before_ports, row_few}
 use Rattle.device.proofs.Numbered.{past_ports}
 
 -- a port that is among the first is theirs
@@ -50,14 +50,3 @@ module _ {D R : Type 0} (meaning : D → Meaning) (asks : R → ℕ → ℕ → 
   pub before_refuses : (p l : ℕ) → 8 ≤ p → BeforeAsks meaning asks r p l 255 r
   before_refuses zero l h = absurd (omega arith)
   before_refuses (suc p) l h = subst (λ b. MatchBool b ((r.first ≡ r.first) × asks r.rest p l 255 r.rest) (Refuses r 255 r)) (sym (le-ltb p 7 (omega arith))) (refl, refl)
-
--- where the rest is as it was, so is the rig
-pub before_same : {D R : Type 0} (r : Before D R) (g' : R) → g' ≡ r.rest → ◌≡◌ {A = Before D R} (record { first = r.first; rest = g' }) r
-before_same {D} {R} r g' e = ap (λ (v : R). let r' : Before D R = record { first = r.first; rest = v } in r') e
-
--- port 0 is never missing, and another is missing only where the rest lacks it
-pub first_there : (m : Meaning) (g : Ports) (p : ℕ) → p ≡ 0 → length (before_ports m g) ≤ p → ⊥
-first_there m g p e h = omega (arith, before_some m g)
-
-pub rest_missing : (m : Meaning) (g : Ports) (p q : ℕ) → (p ≡ suc q) × (p < 8) → length (before_ports m g) ≤ p → length g ≤ q
-rest_missing m g p q w h = let long = length-take 8 (m ∷ g) in omega (arith, w.0, w.1)

@@ -3,10 +3,8 @@ use Rattle.std.proofs.Common.{◌≡◌, ℕ, ◌<◌, ◌≤◌, Option, List, 
 use Rattle.std.specs.List.{slice_get}
 use Rattle.std.specs.Option.{MatchOption}
 use Rattle.std.proofs.lemmas.Option.{slice_get_past, slice_get_read}
-use Rattle.std.proofs.Math.Bridge.{le_prop}
 use lib.ListN.{length-map, get_or-map}
 use lib.Seq.{map-set, take-set-lt}
-use Rattle.device.specs.declared.row.Row.{Row}
 use Rattle.device.specs.Asked.{Refuses, RowAsks}
 use Rattle.device.specs.Meaning.{Meaning, Hears}
 use Rattle.device.specs.Ports.{Ports, RigHears}
@@ -14,10 +12,6 @@ use Rattle.device.specs.Built.{row_ports}
 use Rattle.device.specs.Composed.{IsPort}
 use Rattle.device.proofs.Numbered.{hears_port, past_ports}
 use Rattle.device.proofs.Composed.{port_below, past_all}
-
--- a row of the same devices is the same
-pub same_row : {X : Type 0} (r s : Row X) → r.devices ≡ s.devices → r ≡ s
-same_row r s e = subst (λ v. (some : 0 < vec_len v) → r ≡ record { devices = v; some = some }) e (λ some i. record { devices = r.devices; some = le_prop r.some some i }) s.some
 
 module _ {X Z : Type 0} (f : X → Meaning) (v : Vec X Z) (p : ℕ) where
   abbrev means : List Meaning
@@ -59,6 +53,3 @@ module _ {X Z : Type 0} (f : X → Meaning) (v : Vec X Z) (p : ℕ) where
       let inside : p < length (take 8 (vec_items v)) → ⊥ = λ h. outside (omega (arith, long)) (omega (arith, long, v.ok.0)) in
       let past : length (take 8 (vec_items v)) ≤ p = omega arith in
       asks_at (slice_get_past (take 8 (vec_items v)) p past) l 255 _ (refl, refl)
-
-  pub row_there : p < 8 → p < vec_len v → length (row_ports means) ≤ p → ⊥
-  row_there few within le = let inside : p < length (row_ports means) = port_below means p (few, subst (λ (n : ℕ). p < n) long within) in omega arith

@@ -44,8 +44,7 @@ pub trait Rig {
 
     fn ask(&mut self, port: u8, letter: u8) -> u8
         ensures hears { RigHears (ports self.old) port letter result (ports self.new) }
-        ensures asks { asks self.old port letter result self.new }
-        ensures missing { length (ports self.old) ≤ port → self.new ≡ self.old };
+        ensures asks { asks self.old port letter result self.new };
 
     // 1 to 8 ports, each of a lawful device.
     ghost lawful: { (r : Self) → Each Lawful (ports r) };

@@ -1,5 +1,5 @@
 use Rattle.std.proofs.Common.{◌<◌, sym, refl, vec_len, true≢false, arith}
-use Rattle.device.proofs.Rows.{row_asks, row_asks_device, row_missing, row_refuses, row_there, same_row}
+use Rattle.device.proofs.Rows.{row_asks, row_asks_device, row_missing, row_refuses}
 use Rattle.device.proofs.row.RowRig.ask.Goals as goal
 
 pub returns-in-Some : goal.returns-in-Some
@@ -10,7 +10,6 @@ returns-in-Some g c =
     record {
       hears = row_asks g.D.Device.meaning devices c.args.port c.in-Some.device.now c.ask.new.self c.args.letter c.ask.result few within c.in-Some.ensures.value c.ask.ensures;
       asks = row_asks_device g.D.Device.meaning devices c.args.port c.in-Some.device.now c.ask.new.self c.args.letter c.ask.result few within c.in-Some.ensures.value c.ask.ensures;
-      missing = λ long. absurd (row_there g.D.Device.meaning devices c.args.port few within long);
     }
 
 pub returns-in-None : goal.returns-in-None
@@ -20,7 +19,6 @@ returns-in-None g c =
     record {
       hears = row_missing g.D.Device.meaning devices c.args.port c.args.letter outside;
       asks = row_refuses g.D.Device.meaning devices c.args.port c.args.letter outside;
-      missing = λ long. same_row _ _ refl;
     }
 
 pub returns-then-port-ge-PORTS : goal.returns-then-port-ge-PORTS
@@ -30,5 +28,4 @@ returns-then-port-ge-PORTS g c =
     record {
       hears = row_missing g.D.Device.meaning devices c.args.port c.args.letter outside;
       asks = row_refuses g.D.Device.meaning devices c.args.port c.args.letter outside;
-      missing = λ long. refl;
     }

@@ -1,5 +1,5 @@
-use Rattle.std.proofs.Common.{◌∷◌, refl}
-use Rattle.device.proofs.Asking.{asks_first, asks_rest, asks_none, before_asks_first, before_asks_rest, before_refuses, before_same, first_there, rest_missing}
+use Rattle.std.proofs.Common.{◌∷◌}
+use Rattle.device.proofs.Asking.{asks_first, asks_rest, asks_none, before_asks_first, before_asks_rest, before_refuses}
 use Rattle.device.proofs.rigs.before.BeforeRig.ask.Goals as goal
 
 pub returns-in-Some-First : goal.returns-in-Some-First
@@ -9,7 +9,6 @@ returns-in-Some-First g c =
     record {
       hears = asks_first c.args.port part c.ask.ensures;
       asks = before_asks_first g.D.Device.meaning g.R.Rig.asks rig c.ask.new.self c.args.port c.args.letter c.ask.result part c.ask.ensures;
-      missing = λ long. absurd (first_there (g.D.Device.meaning rig.first) (g.R.Rig.ports rig.rest) c.args.port part long);
     }
 
 pub returns-in-Some-Rest : goal.returns-in-Some-Rest
@@ -20,7 +19,6 @@ returns-in-Some-Rest g c =
     record {
       hears = asks_rest c.args.port c.in-Some-Rest.port part asked.ensures.hears;
       asks = before_asks_rest g.D.Device.meaning g.R.Rig.asks rig asked.new.self c.args.port c.in-Some-Rest.port c.args.letter asked.result part asked.ensures.asks;
-      missing = λ long. before_same rig asked.new.self (asked.ensures.missing (rest_missing (g.D.Device.meaning rig.first) (g.R.Rig.ports rig.rest) c.args.port c.in-Some-Rest.port part long));
     }
 
 pub returns-in-None : goal.returns-in-None
@@ -29,5 +27,4 @@ returns-in-None g c =
     record {
       hears = asks_none (g.D.Device.meaning rig.first ∷ g.R.Rig.ports rig.rest) c.args.port c.args.letter c.in-None.ensures;
       asks = before_refuses g.D.Device.meaning g.R.Rig.asks rig c.args.port c.args.letter c.in-None.ensures;
-      missing = λ long. refl;
     }
