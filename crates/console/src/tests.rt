@@ -104,7 +104,8 @@ fn a_layer_means_what_is_below(rt: HostRuntime) -> Result<(), Fail> {
     Ok(())
 }
 
-// The three below hold too where memory ends at any request of theirs: `rt try --test --fail-alloc N` ends it at the Nth.
+// The three below hold too where memory ends at any request of the call that they are about: `rt try --test --fail-alloc N` ends it
+// at the Nth.
 #[test]
 fn without_memory_a_line_counts_for_nothing(rt: HostRuntime) -> Result<(), Fail> {
     let mut text = *b"rig trail/projector:02";

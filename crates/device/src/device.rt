@@ -50,7 +50,7 @@ pub trait Device {
     // What each device proves of its own meaning.
     ghost lawful: { (d : Self) → Lawful (meaning d) };
 
-    // Whether the letter has an answer where the device stands. (As of an `EdgeTable`: a function over the look-up would be longer.)
+    // Whether the letter has an answer where the device stands.
     final fn allows(&self, letter: u8) -> bool
         ensures { result ≡ allowed (meaning self.now).table (meaning self.now).station letter }
     {

@@ -78,10 +78,10 @@ impl Level<'_> {
         place: u16,
         handle: u8,
         letter: u8,
-        blocks: &Blocks,
+        blocks: Blocks,
         keys: &mut Keys,
     ) -> Result<(), Fault>
-        ensures { Leaves result keys.new (ask_keys (scope_at self.now) self.now.depth place handle letter (pieces blocks.now) keys.old) }
+        ensures { Leaves result keys.new (ask_keys (scope_at self.now) self.now.depth place handle letter (pieces blocks.entry) keys.old) }
     {
         let to = self.scope.allowed(place, handle, letter, keys)?;
         let blocks = blocks.by_answer();
@@ -123,7 +123,7 @@ impl Level<'_> {
                 blocks,
             } => {
                 let inner = self.deeper(place)?;
-                inner.check_ask(place, handle, letter, &blocks, keys)
+                inner.check_ask(place, handle, letter, blocks, keys)
             }
             Command::Repeat { block, .. } => {
                 let inner = self.deeper(place)?;
