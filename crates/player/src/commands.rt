@@ -104,7 +104,7 @@ impl<'a> Stage<'a> {
                 self.open.pass(rest);
                 self.open.push(Frame {
                     block: loaded.body(part),
-                    ports: handed(&ports, &bindings),
+                    ports: handed(&ports, bindings),
                 });
                 Step::silent(Outcome::Ran(0))
             }

@@ -15,7 +15,7 @@ abbrev pub said : Command → rules.Command
 said (Send h l r) = send h l r
 said (Ask h l bs) = ask h l (pieces bs)
 said (Repeat r b) = repeat r (piece b)
-said (Run p bs) = run p bs
+said (Run p bs) = run p bs.now
 said (Set r v) = store r v
 said (Dec r) = dec r
 said (Cue n) = cue n

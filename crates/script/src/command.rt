@@ -46,7 +46,7 @@ pub enum Command<'a> {
     },
     Run {
         part: u8,
-        bindings: [u8; HANDLES],
+        bindings: &'a [u8; HANDLES],
     },
     Set {
         register: u8,
@@ -107,7 +107,7 @@ fn read_repeat<'a>(register: u8, len: u16, tail: Block<'a>) -> Option<(Command<'
 
 // The command of that first byte whose operands stand at the front of the block, and the rest; None where it is not whole. The byte is
 // tested before the length, which cannot be foreseen where a block is short. The operands of each are one pattern, so that none is named
-// before all of them are there.
+// before all of them are there; a RUN's bindings are taken as they lie, not copied one by one.
 #[inline(always)]
 fn read_operands<'a>(opcode: u8, operands: Block<'a>) -> Option<(Command<'a>, Block<'a>)>
     ensures { Reads result (read_operands (code_of opcode) operands.entry.place operands.entry.bytes.now) }
@@ -143,12 +143,13 @@ fn read_operands<'a>(opcode: u8, operands: Block<'a>) -> Option<(Command<'a>, Bl
             read_repeat(*register, word(*w0, *w1), operands.behind(tail))
         }
         RUN => {
-            let [part, b0, b1, b2, b3, b4, b5, b6, b7, rest @ ..] = operands.bytes else {
+            let [part, tail @ ..] = operands.bytes else {
                 return None;
             };
+            let (bindings, rest) = tail.split_first_chunk::<HANDLES>()?;
             let run = Command::Run {
                 part: *part,
-                bindings: [*b0, *b1, *b2, *b3, *b4, *b5, *b6, *b7],
+                bindings,
             };
             Some((run, operands.behind(rest)))
         }

@@ -130,7 +130,7 @@ impl Level<'_> {
                 inner.check_repeat(place, block, keys)
             }
             Command::Run { part, bindings } => {
-                let Some(run) = scope.run(part, bindings) else {
+                let Some(run) = scope.run(part, *bindings) else {
                     return Err(LayoutCause::OutOfRange.at(place));
                 };
                 run.check(place, keys)

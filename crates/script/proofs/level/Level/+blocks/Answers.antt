@@ -146,7 +146,7 @@ check_command-returns-in-Some t c =
     let x = scope_at c.args.self.now in
     let w = c.in-Some.ensures in
     left_so _ _ _ _ (settled x _ _ _ c.args.command _ c.in-Run.is w.0 refl
-    ∙ runs c.args.self.now.scope.now c.in-Run.part (block_keys x (suc c.args.self.now.depth)) c.args.place c.in-Run.bindings c.args.keys.now c.in-Some.run'.part.now w.1
+    ∙ runs c.args.self.now.scope.now c.in-Run.part (block_keys x (suc c.args.self.now.depth)) c.args.place c.in-Run.bindings.now c.args.keys.now c.in-Some.run'.part.now w.1
     ∙ sym (λ i. run_keys (w.2 i) c.args.place c.in-Some.run'.part.now (w.3 i) c.args.keys.now))
     c.check.ensures
 
