@@ -53,16 +53,8 @@ LeavesLog (NotUnderstood number) log log' = log' ≡ log
 
 -- what an answer leaves of the rig that is held, as a value: the same, but that a new rig takes its place
 abbrev pub LeavesRig : {R : Type 0} → Answer → R → R → Type 0
-LeavesRig (answers.Book r) rig rig' = rig' ≡ rig
-LeavesRig (answers.Script r) rig rig' = rig' ≡ rig
 LeavesRig (answers.Rig r) rig rig' = OnErr r (rig' ≡ rig)
-LeavesRig answers.Player rig rig' = rig' ≡ rig
-LeavesRig (Begun r) rig rig' = rig' ≡ rig
-LeavesRig (Went r) rig rig' = OnErr r (rig' ≡ rig)
-LeavesRig (Looked r) rig rig' = rig' ≡ rig
-LeavesRig (Struck r) rig rig' = OnErr r (rig' ≡ rig)
-LeavesRig (answers.Ports lines) rig rig' = rig' ≡ rig
-LeavesRig (NotUnderstood number) rig rig' = rig' ≡ rig
+LeavesRig answer rig rig' = LeavesLog answer rig rig'
 
 -- a line that is not answered leaves both as well
 
