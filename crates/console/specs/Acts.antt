@@ -40,31 +40,19 @@ entries_for d (Some answer) = entries_of d answer
 
 -- What an answer leaves of the log, as a value: only an accepted go or strike may change it.
 abbrev pub LeavesLog : {L : Type 0} → Answer → L → L → Type 0
-LeavesLog (answers.Book r) log log' = log' ≡ log
-LeavesLog (answers.Script r) log log' = log' ≡ log
-LeavesLog (answers.Rig r) log log' = log' ≡ log
-LeavesLog answers.Player log log' = log' ≡ log
-LeavesLog (Begun r) log log' = log' ≡ log
 LeavesLog (Went r) log log' = OnErr r (log' ≡ log)
-LeavesLog (Looked r) log log' = log' ≡ log
 LeavesLog (Struck r) log log' = OnErr r (log' ≡ log)
-LeavesLog (answers.Ports lines) log log' = log' ≡ log
-LeavesLog (NotUnderstood number) log log' = log' ≡ log
+LeavesLog answer log log' = log' ≡ log
 
 -- what an answer leaves of the rig that is held, as a value: the same, but that a new rig takes its place
 abbrev pub LeavesRig : {R : Type 0} → Answer → R → R → Type 0
 LeavesRig (answers.Rig r) rig rig' = OnErr r (rig' ≡ rig)
 LeavesRig answer rig rig' = LeavesLog answer rig rig'
 
--- a line that is not answered leaves both as well
-
-abbrev pub LeavesLogFor : {L : Type 0} → Option Answer → L → L → Type 0
-LeavesLogFor None log log' = log' ≡ log
-LeavesLogFor (Some answer) log log' = LeavesLog answer log log'
-
-abbrev pub LeavesRigFor : {R : Type 0} → Option Answer → R → R → Type 0
-LeavesRigFor None rig rig' = rig' ≡ rig
-LeavesRigFor (Some answer) rig rig' = LeavesRig answer rig rig'
+-- a line that is not answered leaves it as well
+abbrev pub LeavesFor : {X : Type 0} → (Answer → X → X → Type 0) → Option Answer → X → X → Type 0
+LeavesFor leaves None x x' = x' ≡ x
+LeavesFor leaves (Some answer) x x' = leaves answer x x'
 
 -- a log has at most 4096 entries
 abbrev pub room_of : ℕ → ℕ

@@ -1,7 +1,7 @@
 // What the console holds between two lines, and how a line changes it.
 ghost use Rattle.std.specs.Prelude.{◌≡◌, map, IfOk, OnErr, OnOk};
 ghost use Rattle.book.specs.Reading.{read_book};
-ghost use Rattle.console.specs.Acts.{LeavesLogFor, LeavesRig, LeavesRigFor, entries_for};
+ghost use Rattle.console.specs.Acts.{LeavesFor, LeavesLog, LeavesRig, entries_for};
 ghost use Rattle.console.specs.Answers.{count_kinds, count_parts, rig_answer};
 ghost use Rattle.console.specs.Held.{book_after, held_of, nothing_held, replies_after, replies_held, rig_after, script_after, script_read};
 ghost use Rattle.console.specs.Plans.{mounted, planned};
@@ -116,8 +116,8 @@ impl<'a> Desk<'a> {
         line: &'a Line<'a>,
     ) -> Result<Option<Answer>, AllocError>
         ensures answers { IfOk result (λ answer. Answers number (held_of self.old) (view line.now) answer (entries_for self.new answer) (held_of self.new)) }
-        ensures rig { IfOk result (λ answer. LeavesRigFor answer self.old.rig self.new.rig) }
-        ensures log { IfOk result (λ answer. LeavesLogFor answer self.old.log self.new.log) }
+        ensures rig { IfOk result (λ answer. LeavesFor LeavesRig answer self.old.rig self.new.rig) }
+        ensures log { IfOk result (λ answer. LeavesFor LeavesLog answer self.old.log self.new.log) }
         ensures replies { OnOk result (Replies (view line.now) (replies_held self.old) (replies_held self.new)) }
         ensures lost { OnErr result (self.new ≡ self.old) }
     {
