@@ -5,4 +5,5 @@ pub mod Pairs
 pub mod Mounting
 pub mod Rows
 pub mod Somes
+pub mod Told
 pub mod Turns

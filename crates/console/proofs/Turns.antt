@@ -5,17 +5,17 @@ use Rattle.std.proofs.lemmas.List.{append-nil}
 use Rattle.protocol.specs.declared.edges.Entry.{Entry}
 use Rattle.console.specs.declared.answer.Answer.{Answer}
 use Rattle.console.specs.Held.{Held}
-use Rattle.console.specs.Lines.{Parsed}
-use Rattle.console.specs.Transcripts.{Answers, Transcript, piece_of, printed, rest_of}
+use Rattle.console.specs.Lines.{Numbered}
+use Rattle.console.specs.Transcripts.{Answers, Told, piece_of, printed, rest_of}
 
-module _ {L : Type 0} (view : L → Parsed) (lines : List L) where
+module _ {L : Type 0} (numbered : L → Numbered) (lines : List L) where
   -- what completes the lines behind it completes them with it
-  pub turn : (i number : ℕ) (line : L) (held held' : Held) (answer : Option Answer) (es : List Entry) (rest : List ℕ) → i < length lines → line ≡ get_or lines i line →
-      Answers number held (view line) answer es held' → Transcript (number + 1) held' (map view (drop (i + 1) lines)) rest →
-      Transcript number held (map view (drop i lines)) (printed answer es ++ rest)
-  turn i number line held held' answer es rest within is a t =
+  pub turn : (i : ℕ) (line : L) (held held' : Held) (answer : Option Answer) (es : List Entry) (rest : List ℕ) → i < length lines → line ≡ get_or lines i line →
+      Answers (numbered line).number held (numbered line).line answer es held' → Told held' (map numbered (drop (i + 1) lines)) rest →
+      Told held (map numbered (drop i lines)) (printed answer es ++ rest)
+  turn i line held held' answer es rest within is a t =
       let first : drop i lines ≡ line ∷ drop (i + 1) lines = drop-cons lines i line within ∙ (rw (add-one, ← is) refl) in
-      subst (λ (ls : List L). Transcript number held (map view ls) (printed answer es ++ rest)) (sym first) (answer, es, held', rest, a, t, refl)
+      subst (λ (ls : List L). Told held (map numbered ls) (printed answer es ++ rest)) (sym first) (answer, es, held', rest, a, t, refl)
 
 split : (b : Bool) (text : List ℕ) → text ≡ (if b then text else []) ++ (if b then [] else text)
 split true text = sym (append-nil text)

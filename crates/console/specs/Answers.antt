@@ -12,7 +12,7 @@ use Rattle.machine.specs.declared.report.Report.{Report}
 use Rattle.machine.specs.declared.report.Reason.{Reason}
 use Rattle.machine.specs.declared.report.Reason.TheVariants.{End, Spent, Cue, Failed}
 use Rattle.console.specs.declared.ports.PortLine.{PortLine}
-use Rattle.console.specs.Ports.{port_lines}
+use Rattle.console.specs.Ports.{by_port, port_lines}
 use Rattle.console.specs.declared.answer.Answer.{Answer}
 use Rattle.console.specs.declared.answer.Answer.TheVariants.{Book, Script, Rig, Player, Begun, Went, Looked, Struck, Ports, NotUnderstood}
 
@@ -35,10 +35,12 @@ rig_answer number (Err fault) = Rig (Err fault)
 -- there may be no rig
 abbrev pub ports_answer : ℕ → Option shown.Ports → Answer
 ports_answer number None = NotUnderstood number
-ports_answer number (Some g) = Ports (record { items = port_lines g })
+ports_answer number (Some g) = Ports (by_port (port_lines g))
 
-abbrev pub port_text : PortLine → List ℕ
-port_text l = codes "port " ++ (decimal l.port ++ (codes " station " ++ (decimal l.station ++ (codes ", heard " ++ (decimal l.heard ++ codes "\n")))))
+-- nothing, where there is no port
+abbrev pub port_text : Option PortLine → List ℕ
+port_text None = []
+port_text (Some l) = codes "port " ++ (decimal l.port ++ (codes " station " ++ (decimal l.station ++ (codes ", heard " ++ (decimal l.heard ++ codes "\n")))))
 
 -- why a go stopped
 abbrev pub reason_text : Reason → List ℕ
@@ -80,7 +82,7 @@ answer_text (Looked (Ok (station, over))) = look_text station over
 answer_text (Looked (Err fault)) = refused (codes "look") fault
 answer_text (Struck (Ok letters)) = codes "strike " ++ (decimal letters ++ codes " letters\n")
 answer_text (Struck (Err fault)) = refused (codes "strike") fault
-answer_text (Ports lines) = flat_map port_text lines.items
+answer_text (Ports lines) = flat_map port_text lines
 answer_text (NotUnderstood line) = codes "line " ++ (decimal line ++ codes ": not understood\n")
 
 -- and the entries, where it has some

@@ -6,6 +6,7 @@ pub mod Held
 pub mod Hex
 pub mod Layers
 pub mod Lines
+pub mod Numbered
 pub mod Numbers
 pub mod Plans
 pub mod Ports

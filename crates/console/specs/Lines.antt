@@ -1,5 +1,5 @@
 -- What a line of input asks for, by its bytes.
-use Rattle.std.specs.Prelude.{ℕ, cond, List, [], ◌∷◌, map, length, Some, None, codes, Option, ◌==◌, nat_le}
+use Rattle.std.specs.Prelude.{ℕ, ◌+◌, cond, List, [], ◌∷◌, ◌++◌, map, length, Some, None, codes, Option, ◌==◌, nat_le}
 use Rattle.std.specs.List.{slice_split}
 use Rattle.std.specs.Option.{option_map}
 use Rattle.std.specs.Str.{bytes_eq}
@@ -64,3 +64,21 @@ line_of bs = text_line (after_blanks bs)
 -- the lines between newlines, which are 10; after the last newline there is a blank one more, which nothing answers
 abbrev pub lines_of : List ℕ → List Parsed
 lines_of bs = map line_of (slice_split (λ b. b == 10) bs)
+
+-- a line that asks for something, with its number
+pub record Numbered : Type 0 where
+  pub number : ℕ
+  pub line : Parsed
+
+abbrev pub asked_at : ℕ → Parsed → List Numbered
+asked_at number blank = []
+asked_at number (book bs) = record { number = number; line = book bs } ∷ []
+asked_at number (script bs) = record { number = number; line = script bs } ∷ []
+asked_at number (rig plans) = record { number = number; line = rig plans } ∷ []
+asked_at number (stage command) = record { number = number; line = stage command } ∷ []
+asked_at number unknown = record { number = number; line = unknown } ∷ []
+
+-- those among the lines from that number on
+abbrev pub asked_from : ℕ → List Parsed → List Numbered
+asked_from number [] = []
+asked_from number (line ∷ lines) = asked_at number line ++ asked_from (number + 1) lines

@@ -1,5 +1,5 @@
 -- The console's rig: what it means, and what it shows.
-use Rattle.std.specs.Prelude.{ℕ, List, length, map, vec_items}
+use Rattle.std.specs.Prelude.{ℕ, List, Option, length, map, slice_get, vec_items}
 use Rattle.std.specs.List.{range_with_len}
 use Rattle.device.specs.declared.projector.Projector.{Projector}
 use Rattle.device.specs.declared.row.Row.{Row}
@@ -37,3 +37,7 @@ port_line g p = record { port = p; station = station_at g p; heard = heard_at g 
 
 abbrev pub port_lines : Ports → List PortLine
 port_lines g = map (port_line g) (range_with_len 0 (length g))
+
+-- for each of eight ports its line, if there is one
+abbrev pub by_port : List PortLine → List (Option PortLine)
+by_port lines = map (slice_get lines) (range_with_len 0 8)

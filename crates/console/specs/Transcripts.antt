@@ -8,7 +8,7 @@ use Rattle.console.specs.declared.answer.Answer.TheVariants.{Book, Script, NotUn
 use Rattle.console.specs.Acts.{Acts}
 use Rattle.console.specs.Answers.{count_kinds, count_parts, reply_text, rig_answer}
 use Rattle.console.specs.Held.{Held, nothing_held, book_after, replies_after, rig_after, script_after, script_read}
-use Rattle.console.specs.Lines.{Parsed, blank, book, script, rig, stage, unknown}
+use Rattle.console.specs.Lines.{Numbered, Parsed, blank, book, script, rig, stage, unknown}
 use Rattle.console.specs.Plans.{mounted}
 
 -- the answer to the line of that number, its entries, and what is held after it
@@ -42,6 +42,17 @@ Transcript number held [] text = text ≡ []
 Transcript number held (line ∷ lines) text =
     (answer : Option Answer) × (es : List Entry) × (held' : Held) × (rest : List ℕ)
     × Answers number held line answer es held' × Transcript (number + 1) held' lines rest × (text ≡ printed answer es ++ rest)
+
+-- the text that is answered to lines with their numbers
+abbrev pub Told : Held → List Numbered → List ℕ → Type 0
+Told held [] text = text ≡ []
+Told held (asked ∷ rest_asked) text =
+    (answer : Option Answer) × (es : List Entry) × (held' : Held) × (rest : List ℕ)
+    × Answers asked.number held asked.line answer es held' × Told held' rest_asked rest × (text ≡ printed answer es ++ rest)
+
+-- a writer, by its bytes where they are known, took what is answered to such lines from nothing held
+abbrev pub Tells : List Numbered → Option (List ℕ) → Option (List ℕ) → Type 0
+Tells asked old new = (text : List ℕ) × Told nothing_held asked text × Appends old new text
 
 -- a writer, by its bytes where they are known, took what is answered to the lines from nothing held
 abbrev pub Prints : List Parsed → Option (List ℕ) → Option (List ℕ) → Type 0

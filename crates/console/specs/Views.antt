@@ -19,3 +19,12 @@ asked (Err e) = unknown
 abbrev pub view : Option (Result Command NotUnderstood) → Parsed
 view None = blank
 view (Some command) = asked command
+
+-- a line of devices: no other may want memory for its answer
+abbrev pub IsRig : Parsed → Type 0
+IsRig blank = ⊥
+IsRig (book bs) = ⊥
+IsRig (script bs) = ⊥
+IsRig (rig plans) = Unit {0}
+IsRig (stage command) = ⊥
+IsRig unknown = ⊥

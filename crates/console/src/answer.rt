@@ -5,12 +5,11 @@ ghost use Rattle.std.specs.List.{flat_map};
 ghost use Rattle.console.specs.Answers.{answer_text, look_text, port_text, refused, report_text};
 
 use crate::ports::PortLine;
-use arrayvec::ArrayVec;
 use faults::Fault;
 use machine::{Reason, Report};
 use std::fmt;
 
-#[derive(Drop)]
+#[derive(Clone, Copy)]
 pub enum Answer {
     // how many kinds the book has, or why it is refused
     Book(Result<u8, Fault>),
@@ -26,8 +25,8 @@ pub enum Answer {
     Looked(Result<(u8, bool), Fault>),
     // how many letters were sent
     Struck(Result<u32, Fault>),
-    // what the ports of the rig show
-    Ports(ArrayVec<PortLine, 8>),
+    // what the ports of the rig show, none behind the last: an array, since no ArrayVec can be copied
+    Ports([Option<PortLine>; 8]),
     // the number of the line, from 1
     NotUnderstood(u64),
 }
@@ -53,7 +52,7 @@ impl fmt::Display for Answer {
             Answer::Looked(Err(fault)) => write_refused("look", fault, f),
             Answer::Struck(Ok(letters)) => writeln!(f, "strike {letters} letters"),
             Answer::Struck(Err(fault)) => write_refused("strike", fault, f),
-            Answer::Ports(lines) => write_ports(lines.as_slice(), f),
+            Answer::Ports(lines) => write_ports(lines, f),
             Answer::NotUnderstood(line) => writeln!(f, "line {line}: not understood"),
         }
     }
@@ -98,16 +97,26 @@ fn write_look<W: fmt::Write>(station: u8, over: bool, f: &mut fmt::Formatter<W>)
     }
 }
 
-fn write_ports<W: fmt::Write>(lines: &[PortLine], f: &mut fmt::Formatter<W>) -> fmt::Result
+fn write_ports<W: fmt::Write>(lines: &[Option<PortLine>], f: &mut fmt::Formatter<W>) -> fmt::Result
     ensures { DisplaysOnOk W.write_str_gives f.old result (Some (flat_map port_text lines.now)) f.new }
 {
     for line in lines {
-        let PortLine {
-            port,
-            station,
-            heard,
-        } = *line;
-        writeln!(f, "port {port} station {station}, heard {heard}")?;
+        write_port(line, f)?;
     }
     Ok(())
+}
+
+fn write_port<W: fmt::Write>(line: &Option<PortLine>, f: &mut fmt::Formatter<W>) -> fmt::Result
+    ensures { DisplaysOnOk W.write_str_gives f.old result (Some (port_text line.now)) f.new }
+{
+    match *line {
+        Some(
+            PortLine {
+                port,
+                station,
+                heard,
+            },
+        ) => writeln!(f, "port {port} station {station}, heard {heard}"),
+        None => Ok(()),
+    }
 }

@@ -6,7 +6,7 @@ ghost use Rattle.console.specs.Answers.{count_kinds, count_parts, rig_answer};
 ghost use Rattle.console.specs.Held.{book_after, held_of, nothing_held, replies_after, replies_held, rig_after, script_after, script_read};
 ghost use Rattle.console.specs.Plans.{mounted, planned};
 ghost use Rattle.console.specs.Transcripts.{Answers, Replies};
-ghost use Rattle.console.specs.Views.{view};
+ghost use Rattle.console.specs.Views.{IsRig, view};
 
 use crate::answer::Answer;
 use crate::line::{Command, Line, NotUnderstood};
@@ -119,6 +119,7 @@ impl<'a> Desk<'a> {
         ensures rig { IfOk result (λ answer. LeavesFor LeavesRig answer self.old.rig self.new.rig) }
         ensures log { IfOk result (λ answer. LeavesFor LeavesLog answer self.old.log self.new.log) }
         ensures replies { OnOk result (Replies (view line.now) (replies_held self.old) (replies_held self.new)) }
+        ensures devices { OnErr result (IsRig (view line.now)) }
         ensures lost { OnErr result (self.new ≡ self.old) }
     {
         match line {

@@ -25,7 +25,7 @@ pub use layer::Layer;
 pub use layered::Layered;
 pub use line::{Command, Line, NotUnderstood, parse_line};
 pub use plan::Plan;
-pub use ports::{PortLine, port_lines};
+pub use ports::{PortLine, by_port, port_lines};
 pub use reply::write_reply;
 pub use session::transcript;
 pub use stage::{StageCommand, parse_stage};

@@ -1,9 +1,10 @@
 // What the ports of a rig show.
-ghost use Rattle.std.specs.Prelude.{◌≡◌};
-ghost use Rattle.console.specs.Ports.{port_lines};
+ghost use Rattle.std.specs.Prelude.{◌≡◌, slice_get};
+ghost use Rattle.console.specs.Ports.{by_port, port_lines};
 
 use arrayvec::ArrayVec;
 use device::Rig;
+use std::array;
 
 #[derive(Clone, Copy, Debug, Default, PartialEq, Eq)]
 pub struct PortLine {
@@ -25,4 +26,17 @@ pub fn port_lines<R: Rig>(rig: &R) -> ArrayVec<PortLine, 8>
         });
     }
     lines
+}
+
+// None behind the last.
+pub fn by_port(lines: &ArrayVec<PortLine, 8>) -> [Option<PortLine>; 8]
+    ensures { result ≡ by_port lines.now.items }
+{
+    array::from_fn(|port| line_at(lines, port))
+}
+
+fn line_at(lines: &[PortLine], port: usize) -> Option<PortLine>
+    ensures { result ≡ slice_get lines.now port }
+{
+    lines.get(port).copied()
 }

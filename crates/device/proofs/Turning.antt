@@ -10,6 +10,14 @@ use Rattle.device.specs.Rings.{IsRing, from_place}
 pub oldest_within : {X : Type 0} {n k : ℕ} {xs : List X} → IsRing n k xs → k ≤ length xs
 oldest_within r = grind (arith, r.few, r.within, r.first)
 
+-- around the end of the room, or of the places that are filled: the same place
+pub around : {X : Type 0} {n k : ℕ} {xs : List X} → IsRing n k xs → (i : ℕ) → i < length xs → (k + i) % n ≡ (k + i) % length xs
+around {n = n} {k = k} {xs = xs} r i h = elim (cases_lt (length xs) n) [
+  | inl low ↦ let z : k + i ≡ i = omega (arith, r.first low) in
+      ap (λ j. j % n) z ∙ mod-eq_of_lt (omega arith) ∙ sym (mod-eq_of_lt h) ∙ ap (λ j. j % length xs) (sym z)
+  | inr high ↦ ap (λ m. (k + i) % m) (omega (arith, r.few))
+]
+
 module _ {X : Type 0} (k : ℕ) (xs : List X) (within : k ≤ length xs) where
   length_from : length (from_place k xs) ≡ length xs
   length_from = omega (arith, length-append (drop k xs) (take k xs), length-drop k xs, length-take k xs)

@@ -69,7 +69,8 @@ impl Ring {
     {
         let place = place as usize;
         if place < self.pairs.len() {
-            Some(self.pairs[(self.oldest + place) % self.pairs.len()])
+            // until it is full, the oldest is the first: `% len()` would be the same, and divide
+            Some(self.pairs[(self.oldest + place) % ROOM])
         } else {
             None
         }

@@ -3,7 +3,6 @@ ghost use Rattle.std.specs.Prelude.{◌≡◌, ◌≤◌, [], ◌∷◌, ◌++�
 ghost use Rattle.std.specs.List.{slice_get};
 ghost use Rattle.device.specs.Meaning.{Hears};
 ghost use Rattle.device.specs.Rings.{last};
-ghost use Rattle.device.specs.Trail.{trail_of};
 
 use crate::device::Device;
 use crate::ring::{Pair, Ring};
@@ -13,9 +12,12 @@ use protocol::EdgeTable;
 pub struct Trail<D> {
     below: D,
     ring: Ring,
+    ghost few: { length ring ≤ 32 },
 }
 
 impl<D> Trail<D> {
+    ghost use Rattle.device.specs.Trail.{trail_of};
+
     pub fn new(below: D) -> Trail<D>
         ensures below { result.below ≡ below }
         ensures empty { trail_of result ≡ [] }
@@ -56,6 +58,8 @@ impl<D> Trail<D> {
 }
 
 impl<D: Device> Device for Trail<D> {
+    ghost use Rattle.device.specs.Trail.{trail_of};
+
     ghost meaning = { λ t. D.Device.meaning t.below };
 
     ghost lawful = { λ t. D.Device.lawful t.below };

@@ -34,8 +34,9 @@ pub const NONE: u8 = 255;
 
 #[derive(Drop)]
 pub struct Dimmer {
-    station: u8,
+    // first, so that the two bytes behind it need no room of their own
     tally: Tally,
+    station: u8,
     level: u8,
     ghost standing: { station < 17 },
 }
@@ -74,8 +75,8 @@ impl Dimmer {
         ensures level { result.level ≡ 0 }
     {
         Dimmer {
-            station: AWAY,
             tally: Tally::new(NONE, NONE),
+            station: AWAY,
             level: 0,
         }
     }

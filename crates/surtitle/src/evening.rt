@@ -1,7 +1,7 @@
 // The show that the program has with it: three projectors, each under other layers, whose lamps answer in three ways.
 use crate::failure::Failure;
 use book::Book;
-use console::{Answer, port_lines};
+use console::{Answer, by_port, port_lines};
 use device::{Before, LetterMap, Patch, Projector, Rig, Single, Trail};
 use player::{Call, Performance, perform};
 use script::Script;
@@ -50,7 +50,7 @@ pub fn evening(rt: &HostRuntime) -> Result<(), Failure> {
     let calls = calls(rt, &script)?;
     let (show, done) = perform(rt.alloc(), &mut rig, &calls);
     print_show(rt, &show)?;
-    print!(rt; "{}", Answer::Ports(port_lines(&rig)))?;
+    print!(rt; "{}", Answer::Ports(by_port(&port_lines(&rig))))?;
     Ok(done.map_err(io::Error::from)?)
 }
 

@@ -8,7 +8,7 @@ ghost use Rattle.console.specs.Held.{held_of};
 
 use super::{Desk, ROOM};
 use crate::answer::Answer;
-use crate::ports::port_lines;
+use crate::ports::{by_port, port_lines};
 use crate::stage::StageCommand;
 use device::Rig;
 use faults::Fault;
@@ -139,7 +139,7 @@ impl<'a> Desk<'a> {
         ensures letters { letters_in result ≡ 0 }
     {
         match &self.rig {
-            Some(rig) => Answer::Ports(port_lines(rig)),
+            Some(rig) => Answer::Ports(by_port(&port_lines(rig))),
             None => Answer::NotUnderstood(number),
         }
     }
