@@ -20,7 +20,7 @@ const RETREAT: u8 = 0x03;
 // The kinds that are closed, and the one that is being declared, for which there is room.
 #[derive(Drop)]
 pub struct Reader {
-    kinds: Automata,
+    pub(crate) kinds: Automata,
     draft: Option<Draft>,
     ghost room: { OnSome draft (length kinds.items < 8) } by { Prim.hlevel props },
 }
@@ -32,7 +32,7 @@ impl Reader {
     ghost use Rattle.book.specs.Reading.{Reading, closed, declare, read_book, start};
     ghost use Rattle.book.specs.Shown.{Gives, Reads, Took, declare_first, first_code};
 
-    fn new() -> Reader
+    pub(crate) fn new() -> Reader
         ensures { Reads result start }
     {
         Reader {
@@ -115,21 +115,21 @@ impl Reader {
         }
     }
 
-    // The automata of the kinds that the bytes declare, or the first fault.
-    pub(crate) fn read(bytes: &[u8]) -> Result<Automata, Fault>
-        ensures { Gives (λ v ks. Listed v.items ks) result (read_book bytes.now) }
+    // Takes all the commands of a book. A new reader has the automata of their kinds then, or names the first fault; they are
+    // large, so they stay where they were made until they are held.
+    pub(crate) fn read(&mut self, bytes: &[u8]) -> Result<(), Fault>
+        requires { Reads self.old start }
+        ensures { Gives (λ _ ks. Listed self.new.kinds.items ks) result (read_book bytes.now) }
     {
         if bytes.len() > MOST_BYTES {
             return Err(BookCause::TooLong.at(NOWHERE));
         }
-        let mut reader = Reader::new();
         // each command says itself how long it is, so no iterator can step over them
         let mut rest = bytes;
         while !rest.is_empty() {
             let place = (bytes.len() - rest.len()) as u16;
-            rest = reader.declare(place, rest)?;
+            rest = self.declare(place, rest)?;
         }
-        reader.close()?;
-        Ok(reader.kinds)
+        self.close()
     }
 }

@@ -21,6 +21,15 @@ fn answers_line_by_line(rt: HostRuntime) -> Result<(), Fail> {
     Ok(())
 }
 
+// So it is with `rt try --test --fail-alloc 1`, where there is no memory.
+#[test]
+fn an_empty_input_wants_no_memory(rt: HostRuntime) -> Result<(), Fail> {
+    let mut text = Vec::new(rt.alloc());
+    transcript(rt.alloc(), &mut [], &mut text)?;
+    assert!(rt; text.is_empty());
+    Ok(())
+}
+
 #[test]
 fn digits_may_be_split(rt: HostRuntime) -> Result<(), Fail> {
     let mut line = *b"\tbook a B\tcD9 0";

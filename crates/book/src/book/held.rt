@@ -37,8 +37,12 @@ impl<'a> Book<'a> {
         ensures decides { BookDecides }
         ensures home { RetreatsLeadHome }
     {
-        let kinds = Reader::read(bytes)?;
-        *self = Book { bytes, kinds };
+        let mut reader = Reader::new();
+        reader.read(bytes)?;
+        *self = Book {
+            bytes,
+            kinds: reader.kinds,
+        };
         Ok(())
     }
 
